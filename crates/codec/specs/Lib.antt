@@ -1,0 +1,9 @@
+pub mod Decide
+pub mod Decode
+pub mod Encode
+pub mod Field
+pub mod Kind
+pub mod Number
+pub mod Roundtrip
+pub mod Store
+pub mod Strict
