@@ -7,3 +7,4 @@ pub mod Number
 pub mod Roundtrip
 pub mod Store
 pub mod Strict
+pub mod Within

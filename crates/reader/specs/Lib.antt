@@ -1,6 +1,15 @@
 pub mod Answers
+pub mod Body
 pub mod Bytes
 pub mod Entry
+pub mod HeadTurn
+pub mod Layout
 pub mod Part
+pub mod Parse
+pub mod Positive
+pub mod Reading
 pub mod Recording
+pub mod Section
+pub mod SectionTurn
+pub mod SurveyTurn
 pub mod Turn

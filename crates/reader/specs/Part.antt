@@ -52,3 +52,12 @@ part-all b = let e : length b - 0 ≡ length b = omega arith in rw e (take-all (
 pub part-none : (from to : ℕ) (b : List ℕ) → to ≤ from → part from to b ≡ []
 unfolding part
 part-none from to b h = let e : to - from ≡ 0 = omega arith in rw e
+
+-- what stands from a place on
+pub rest-all : (at : ℕ) (b : List ℕ) → take (length b - at) (drop at b) ≡ drop at b
+rest-all at b = take-all (length b - at) (drop at b) (rw length-drop (omega arith))
+
+-- a run of bytes some way behind a place, as a part of the whole
+pub rest-part : (skip size at : ℕ) (b : List ℕ) → part (at + skip) (at + skip + size) b ≡ take size (drop skip (drop at b))
+unfolding part
+rest-part skip size at b = let e : at + skip + size - (at + skip) ≡ size = omega arith in rw (e, drop-drop)
