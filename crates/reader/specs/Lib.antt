@@ -1,6 +1,8 @@
 pub mod Answers
 pub mod Body
 pub mod Bytes
+pub mod CallTurn
+pub mod Calls
 pub mod Entry
 pub mod HeadTurn
 pub mod Layout
@@ -11,5 +13,6 @@ pub mod Reading
 pub mod Recording
 pub mod Section
 pub mod SectionTurn
+pub mod Standing
 pub mod SurveyTurn
 pub mod Turn
