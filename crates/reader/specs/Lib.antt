@@ -9,8 +9,10 @@ pub mod Layout
 pub mod Part
 pub mod Parse
 pub mod Positive
+pub mod Range
 pub mod Reading
 pub mod Recording
+pub mod Roundtrip
 pub mod Section
 pub mod SectionTurn
 pub mod Standing
