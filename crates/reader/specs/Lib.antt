@@ -1,5 +1,6 @@
 pub mod Answers
 pub mod Body
+pub mod BodyStrict
 pub mod Bytes
 pub mod CallTurn
 pub mod Calls
@@ -16,5 +17,6 @@ pub mod Roundtrip
 pub mod Section
 pub mod SectionTurn
 pub mod Standing
+pub mod Strict
 pub mod SurveyTurn
 pub mod Turn
