@@ -1,13 +1,13 @@
 -- Strictness of a body: bytes read as accesses only if they are those accesses' bytes, and their numbers are then in range.
-use mathlib.Core.Path.{_≡_, refl, ap, ap₂, _∙_, sym}
-use mathlib.Core.Bool.{Bool, true, false, not, _&&_}
-use mathlib.Core.List.{List, [], _∷_, _++_, append-assoc, append-nil, map}
-use Prim.Native.Nat.{ℕ, zero, suc, _+_, _*_, _-_, _≤_, _<_}
+use mathlib.Core.Path.{_≡_, refl, ap, _∙_}
+use mathlib.Core.Bool.{true, not}
+use mathlib.Core.List.{List, [], _∷_, _++_, append-assoc}
+use Prim.Native.Nat.{ℕ, zero, suc, _+_, _*_, _≤_}
 use native.Mathlib.Omega.{arith}
 use lib.Dec.{eqb, ltb}
-use lib.ListN.{length, getD, take, drop, length-append, length-take, length-drop, take-append-drop}
-use lib.Seq.{take-at, drop-at, drop-drop, drop-cons, getD-drop, take-all}
-use borrow.Author.Tests.{ltb-true, eqb-true, eqb-false, not-true}
+use lib.ListN.{length, drop, length-drop}
+use lib.Seq.{drop-drop}
+use borrow.Author.Tests.{ltb-true, eqb-false, not-true}
 use Rattle.codec.specs.declared.Position.{Position}
 use Rattle.codec.specs.declared.Op.{Op}
 use Rattle.codec.specs.declared.Op.the-variants.{Read, Write}
@@ -15,18 +15,17 @@ use Rattle.codec.specs.declared.Record.{Record}
 use Rattle.codec.specs.declared.Record.the-variants.{Head, Section, Ordering, Access, Refused}
 use Rattle.codec.specs.Decide.{isT, isF, split, both-true}
 use Rattle.codec.specs.Decode.{recordOf}
-use Rattle.codec.specs.Encode.{startTwo, cell, cells, head, section, ordering, access, opLength}
-use Rattle.codec.specs.Field.{Bytes, bytes-drop, bytes-take, field4, field4-fits, field4-back}
-use Rattle.codec.specs.Kind.{headKind, headLength}
-use Rattle.codec.specs.Number.{short, misplaced, inBody}
+use Rattle.codec.specs.Encode.{ordering, opLength}
+use Rattle.codec.specs.Field.{Bytes, bytes-drop}
+use Rattle.codec.specs.Number.{misplaced, inBody}
 use Rattle.codec.specs.Roundtrip.{FitsPosition, FitsOp}
 use Rattle.codec.specs.Strict.{Begins, record-begins}
 use Rattle.reader.specs.declared.Checked.{Checked}
 use Rattle.reader.specs.declared.Limits.{Limits}
 use Rattle.reader.specs.Reading.{Reading, refused, read, stop, mapped, andThen}
-use Rattle.reader.specs.Recording.{Entry, Recording}
-use Rattle.reader.specs.Bytes.{orderingsBytes, entryBytes, entryLength, entry-long, bodyBytes, sectionsBytes, bytesOf}
-use Rattle.reader.specs.Range.{PositionIn, OpIn, OrderingsIn, EntryIn, EntriesIn, BodyIn, BodiesIn, AllUnder, InRange}
+use Rattle.reader.specs.Recording.{Entry}
+use Rattle.reader.specs.Bytes.{orderingsBytes, entryBytes, entryLength, entry-long, bodyBytes}
+use Rattle.reader.specs.Range.{PositionIn, OpIn, EntryIn, EntriesIn}
 use Rattle.reader.specs.Entry.{after, orderingOk, accessOk, onRecord, accessOf, entryFrom, entryOf}
 use Rattle.reader.specs.Body.{bodyFrom, bodyOf}
 
@@ -56,9 +55,10 @@ came-after : (m : Limits) (b : List ℕ) (p : Position) (x : Reading Entry) → 
 unfolding entryBytes orderingsBytes
 came-after m b p (refused c) q i w = tt
 came-after m b p (read e) q i w =
-    let n : 8 * suc (length (e .orderings)) + opLength (e .op) ≡ 8 + (8 * length (e .orderings) + opLength (e .op)) = omega arith in
-    (rw (append-assoc, append-assoc, n, ← drop-drop) (q ∙ ap (λ (l : List ℕ). ordering p ++ l) (rw append-assoc at (w .0))),
-    record { orderings = (i, w .1 .orderings); op = w .1 .op })
+    let n : 8 * suc (length (e .orderings)) + opLength (e .op) ≡ 8 + (8 * length (e .orderings) + opLength (e .op)) = omega arith in (
+      rw (append-assoc, append-assoc, n, ← drop-drop) (q ∙ ap (λ (l : List ℕ). ordering p ++ l) (rw append-assoc at (w .0))),
+      record { orderings = (i, w .1 .orderings); op = w .1 .op },
+    )
 
 came-record : (m : Limits) (at : ℕ) (r : Record) (b : List ℕ) (rest : List ℕ → Reading Entry) → Begins r b → Came m (drop 8 b) (rest (drop 8 b)) → Came m b (onRecord m at r b rest)
 unfolding onRecord accessOf entryBytes orderingsBytes

@@ -6,6 +6,7 @@ pub mod CallTurn
 pub mod Calls
 pub mod Entry
 pub mod HeadTurn
+pub mod Joined
 pub mod Layout
 pub mod Part
 pub mod Parse
@@ -14,6 +15,7 @@ pub mod Range
 pub mod Reading
 pub mod Recording
 pub mod Roundtrip
+pub mod Runs
 pub mod Section
 pub mod SectionTurn
 pub mod Standing

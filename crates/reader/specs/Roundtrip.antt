@@ -1,17 +1,15 @@
 -- Read-back: what a recording's bytes mean is that recording.
 use mathlib.Core.Path.{_≡_, refl, ap, ap₂, _∙_, sym}
-use mathlib.Core.Bool.{true, _&&_}
-use mathlib.Core.List.{List, [], _∷_, _++_, append-assoc, append-nil, map}
-use Prim.Native.Nat.{ℕ, zero, suc, _+_, _*_, _-_, _≤_, _<_}
+use mathlib.Core.Bool.{true}
+use mathlib.Core.List.{List, [], _∷_, _++_, append-assoc, map}
+use Prim.Native.Nat.{ℕ, suc, _+_, _-_, _≤_, _<_}
 use native.Mathlib.Omega.{arith}
-use lib.ListN.{length, getD, take, drop, length-append}
+use lib.ListN.{length, drop, length-append}
 use lib.Seq.{take-at, drop-at, drop-drop}
 use borrow.Author.Tests.{lt-ltb, le-leb, eq-eqb, ne-eqb}
 use Rattle.codec.specs.declared.Position.{Position}
 use Rattle.codec.specs.declared.Op.{Op}
 use Rattle.codec.specs.declared.Op.the-variants.{Read, Write}
-use Rattle.codec.specs.declared.Record.the-variants.{Head, Section, Ordering, Access}
-use Rattle.codec.specs.Decode.{recordOf}
 use Rattle.codec.specs.Encode.{startTwo, cell, cells, head, section, ordering, access, opLength, startTwo-length, ordering-length, access-length, section-length, cells-length, head-length}
 use Rattle.codec.specs.Field.{le2, le4, field2, field4, field4-le4}
 use Rattle.codec.specs.Kind.{headKind, headLength}
@@ -20,14 +18,14 @@ use Rattle.codec.specs.Roundtrip.{FitsOp, read-ordering, read-access, read-sect
 use Rattle.reader.specs.declared.Checked.{Checked}
 use Rattle.reader.specs.declared.Limits.{Limits}
 use Rattle.reader.specs.declared.Span.{Span}
-use Rattle.reader.specs.Reading.{Reading, refused, read, stop, mapped, andThen}
+use Rattle.reader.specs.Reading.{read, stop}
 use Rattle.reader.specs.Recording.{Entry, Recording}
 use Rattle.reader.specs.Bytes.{orderingsBytes, entryBytes, entryLength, entry-long, entry-length, bodyBytes, sectionsBytes, bytesOf}
-use Rattle.reader.specs.Range.{PositionIn, OpIn, OrderingsIn, EntryIn, EntriesIn, BodyIn, BodiesIn, AllUnder, InRange}
+use Rattle.reader.specs.Range.{PositionIn, OpIn, OrderingsIn, EntryIn, EntriesIn, BodyIn, BodiesIn, AllUnder, HeadIn, InRange}
 use Rattle.reader.specs.Entry.{orderingOk, accessOk, onRecord, accessOf, entryOf, entry-ordering, entry-step}
 use Rattle.reader.specs.Body.{bodyOf, body-end, body-step}
 use Rattle.reader.specs.Section.{TaskBody, spanOf, bodyStart, taken, sectionBody, onSection, sectionAt, sectionsOf}
-use Rattle.reader.specs.Parse.{ownersOf, valuesOf, allBelow, sizesOk, onHead, headAt, parsedOf, sectionsAfter, parse}
+use Rattle.reader.specs.Parse.{ownersOf, valuesOf, allBelow, sizesOk, onHead, headAt, sectionsAfter, parse}
 
 -- T and N leave room in their fields
 pub record Small (m : Limits) : Type 0 where
@@ -108,10 +106,15 @@ sections-back tasks objects ht ho t at (es ∷ bodies) h i =
     let r : List ℕ = sectionsBytes (suc t) bodies in
     let e : bodyStart at + L - at ≡ 12 + L = omega arith in
     let d : drop (12 + L) (section t (length es) L ++ (bodyBytes es ++ r)) ≡ r =
-        sym (drop-drop L 12 (section t (length es) L ++ (bodyBytes es ++ r)))
-        ∙ rw (drop-at (section t (length es) L) (bodyBytes es ++ r) 12 (section-length t (length es) L), drop-at (bodyBytes es) r L refl) in
-    rw (append-assoc, section-back m (record { tasks = ht; objects = ho }) (omega arith) at es r (i .0), e, d,
-    sections-back tasks objects ht ho (suc t) (bodyStart at + L) bodies (omega arith) (i .1))
+    sym (drop-drop L 12 (section t (length es) L ++ (bodyBytes es ++ r)))
+    ∙ rw (drop-at (section t (length es) L) (bodyBytes es ++ r) 12 (section-length t (length es) L), drop-at (bodyBytes es) r L refl) in
+    rw (
+      append-assoc,
+      section-back m (record { tasks = ht; objects = ho }) (omega arith) at es r (i .0),
+      e,
+      d,
+      sections-back tasks objects ht ho (suc t) (bodyStart at + L) bodies (omega arith) (i .1),
+    )
 
 owners-back : (owners values : List ℕ) (r : List ℕ) → length values ≡ length owners → ownersOf (length owners) (cells owners values ++ r) ≡ owners
 unfolding ownersOf cells cell le2 le4
@@ -136,7 +139,7 @@ sizes-ok : (t n : ℕ) → 1 ≤ t → t ≤ 16 → 1 ≤ n → n ≤ 256 → si
 unfolding sizesOk
 sizes-ok t n a b c d = rw (le-leb 1 t a, le-leb t 16 b, le-leb 1 n c, le-leb n 256 d)
 
-head-back : (r : Recording) (rest : List ℕ) → InRange r
+head-back : (r : Recording) (rest : List ℕ) → HeadIn (r .tasks) (r .owners) (r .values)
     → headAt (head (r .tasks) (r .owners) (r .values) ++ rest) ≡ read (record { tasks = r .tasks; owners = r .owners; values = r .values })
 unfolding headAt onHead head
 head-back r rest i =
@@ -149,9 +152,9 @@ head-back r rest i =
       read-head short (r .tasks) n (c ++ rest) (omega arith) (i .few-objects) (omega (arith, length-append c rest, cells-length (r .owners) (r .values) (i .value-each))),
       drop-at s (c ++ rest) 8 (startTwo-length _ _ _ _),
       owners-back (r .owners) (r .values) rest (i .value-each),
-      values-back (r .owners) (r .values) rest (i .value-each) (i .values),
+      values-back (r .owners) (r .values) rest (i .value-each) (i .values-in),
       sizes-ok (r .tasks) n (i .some-tasks) (i .few-tasks) (i .some-objects) (i .few-objects),
-      under-below (r .tasks) (r .owners) (i .owners),
+      under-below (r .tasks) (r .owners) (i .owners-in),
     )
 
 -- the bodies' places in a recording's bytes
@@ -170,12 +173,12 @@ parse-back r i =
     let n : ℕ = length (r .owners) in
     let h : List ℕ = head (r .tasks) (r .owners) (r .values) in
     let o = i .body-each in
-    let few = i .few-tasks in
+    let few = i .head .few-tasks in
     let q : sectionsOf (r .tasks) n (r .tasks) 0 (headLength n) (sectionsBytes 0 (r .bodies)) ≡ read (placed (headLength n) (r .bodies)) =
-        rw o at (sections-back (r .tasks) n few (i .few-objects) 0 (headLength n) (r .bodies) (omega arith) (i .bodies)) in
+    rw o at (sections-back (r .tasks) n few (i .head .few-objects) 0 (headLength n) (r .bodies) (omega arith) (i .bodies)) in
     rw (
-      head-back r (sectionsBytes 0 (r .bodies)) i,
-      drop-at h (sectionsBytes 0 (r .bodies)) (headLength n) (head-length (r .tasks) (r .owners) (r .values) (i .value-each)),
+      head-back r (sectionsBytes 0 (r .bodies)) (i .head),
+      drop-at h (sectionsBytes 0 (r .bodies)) (headLength n) (head-length (r .tasks) (r .owners) (r .values) (i .head .value-each)),
       q,
       entries-placed (headLength n) (r .bodies),
     )
