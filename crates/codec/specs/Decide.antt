@@ -1,15 +1,19 @@
 -- A test with the equation that says how it went, for proofs by cases.
-use mathlib.Core.Path.{_≡_, refl}
-use mathlib.Core.Bool.{Bool, true, false, _&&_}
+use mathlib.Core.Path.{_≡_, refl, sym, _∙_}
+use mathlib.Core.Bool.{Bool, true, false, _&&_, true≢false}
 
 pub data Split (b : Bool) : Type 0 where
-  isT : b ≡ true → Split b
-  isF : b ≡ false → Split b
+  passes : b ≡ true → Split b
+  fails : b ≡ false → Split b
 
 pub split : (b : Bool) → Split b
-split true = isT refl
-split false = isF refl
+split true = passes refl
+split false = fails refl
 
-pub both-true : (a b : Bool) → (a && b) ≡ true → (a ≡ true) × (b ≡ true)
-both-true true b p = (refl, p)
-both-true false b p = (p, cc)
+-- one test cannot go both ways
+pub never : (b : Bool) → b ≡ true → b ≡ false → ⊥
+never b p q = true≢false (sym p ∙ q)
+
+pub both-pass : (a b : Bool) → (a && b) ≡ true → (a ≡ true) × (b ≡ true)
+both-pass true b p = (refl, p)
+both-pass false b p = (p, absurd (never false p refl))

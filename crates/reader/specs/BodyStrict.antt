@@ -13,7 +13,7 @@ use Rattle.codec.specs.declared.Op.{Op}
 use Rattle.codec.specs.declared.Op.the-variants.{Read, Write}
 use Rattle.codec.specs.declared.Record.{Record}
 use Rattle.codec.specs.declared.Record.the-variants.{Head, Section, Ordering, Access, Refused}
-use Rattle.codec.specs.Decide.{isT, isF, split, both-true}
+use Rattle.codec.specs.Decide.{passes, fails, split, both-pass}
 use Rattle.codec.specs.Decode.{recordOf}
 use Rattle.codec.specs.Encode.{ordering, opLength}
 use Rattle.codec.specs.Field.{Bytes, bytes-drop}
@@ -37,8 +37,8 @@ Came m b (read e) = (b ≡ entryBytes e ++ drop (entryLength e) b) × EntryIn m 
 position-in : (m : Limits) (p : Position) → FitsPosition p → orderingOk m p ≡ true → PositionIn m p
 unfolding orderingOk
 position-in m p f ok =
-    let x = both-true (ltb (p .task) (m .tasks)) _ ok in
-    let y = both-true (not (eqb (p .task) (m .own))) _ (x .1) in
+    let x = both-pass (ltb (p .task) (m .tasks)) _ ok in
+    let y = both-pass (not (eqb (p .task) (m .own))) _ (x .1) in
     record {
       below = ltb-true _ _ (x .0);
       other = eqb-false (p .task) (m .own) (not-true _ (y .0));
@@ -65,14 +65,14 @@ unfolding onRecord accessOf entryBytes orderingsBytes
 came-record m at (Head t n) b rest q w = tt
 came-record m at (Section t n s) b rest q w = tt
 came-record m at (Ordering p) b rest q w = elim (split (orderingOk m p)) [
-  | isT ok ↦ rw ok (came-after m b p (rest (drop 8 b)) (q .0) (position-in m p (q .1) ok) w)
-  | isF ok ↦ rw ok tt
+  | passes ok ↦ rw ok (came-after m b p (rest (drop 8 b)) (q .0) (position-in m p (q .1) ok) w)
+  | fails ok ↦ rw ok tt
 ]
 came-record m at (Access o) b rest q w = elim (split (accessOk m o)) [
-  | isT ok ↦
+  | passes ok ↦
       let n : 8 * 0 + opLength o ≡ opLength o = omega arith in
       rw (ok, n) (q .0, record { orderings = tt; op = op-in m o (q .1) ok })
-  | isF ok ↦ rw ok tt
+  | fails ok ↦ rw ok tt
 ]
 came-record m at (Refused n) b rest q w = tt
 

@@ -7,7 +7,7 @@ use native.Mathlib.Omega.{arith}
 use lib.Dec.{eqb}
 use lib.ListN.{length}
 use borrow.Author.Tests.{eqb-true, eq-eqb}
-use Rattle.codec.specs.Decide.{isT, isF, split}
+use Rattle.codec.specs.Decide.{passes, fails, split}
 use Rattle.codec.specs.Encode.{head, section}
 use Rattle.codec.specs.Field.{Bytes}
 use Rattle.codec.specs.Number.{inBody}
@@ -33,8 +33,8 @@ walk-reads m at b count wrong z = go (bodyOf m at b) refl (body-positive m at b)
     go (read es) q p =
         let o : 0 + length es ≡ length es = omega arith in
         elim (split (eqb (length es) count)) [
-          | isT r ↦ (es, q, eqb-true _ _ r)
-          | isF r ↦ absurd (let y : inBody ≡ 0 = rw (q, o, r) at z in omega arith)
+          | passes r ↦ (es, q, eqb-true _ _ r)
+          | fails r ↦ absurd (let y : inBody ≡ 0 = rw (q, o, r) at z in omega arith)
         ]
 
 pub reads-walk : (m : Limits) (at : ℕ) (b : List ℕ) (es : List Entry) (wrong : ℕ) → bodyOf m at b ≡ read es → walkOf m at b (length es) wrong ≡ stop 0 0

@@ -1,0 +1,40 @@
+use Rattle.tracker.specs.Sound.{objectSound}
+use borrow.Author.Needs.{needs}
+use Rattle.tracker.proofs.sound.object_sound.Statement.{statement}
+use Rattle.tracker.proofs.sound.object_sound.Tie as tie
+
+enum-known-locality : tie.Need-enum-known-locality
+enum-known-locality c = search needs
+
+enum-known-locality-2 : tie.Need-enum-known-locality-2
+enum-known-locality-2 c = search needs
+
+enum-known-locality-3 : tie.Need-enum-known-locality-3
+enum-known-locality-3 c = search needs
+
+within-requires : tie.Need-within-requires
+within-requires c κs = search needs
+
+returns : tie.Need-returns
+unfolding objectSound
+returns c = simp (c .before .locality .given .1)
+
+returns-2 : tie.Need-returns-2
+unfolding objectSound
+returns-2 c = simp (c .before .locality2 .given .1)
+
+returns-3 : tie.Need-returns-3
+unfolding objectSound
+returns-3 c = rw (c .before .before .locality3 .given .1) (c .within .ensures)
+
+pub object-sound-spec : {M : Type 1} → statement M
+object-sound-spec =
+    tie.close
+    (tie.spec
+    enum-known-locality
+    enum-known-locality-2
+    enum-known-locality-3
+    within-requires
+    returns
+    returns-2
+    returns-3)

@@ -1,0 +1,47 @@
+-- When a recording state is sound (document 01, "Number table": "Unsound recording, looking only at tasks below T and objects below N").
+use mathlib.Core.Bool.{Bool, cond, _&&_}
+use mathlib.Core.List.{List}
+use Prim.Native.Nat.{ℕ}
+use lib.Dec.{eqb, leb, ltb}
+use lib.ListN.{getD}
+use Rattle.codec.specs.declared.Position.{Position}
+use Rattle.tracker.specs.State.{localityOf}
+use Rattle.tracker.specs.Range.{isWithin, allBelow}
+use Rattle.tracker.specs.Sum.{sumOf}
+use Rattle.tracker.specs.declared.Locality.{Locality}
+use Rattle.tracker.specs.declared.Locality.the-variants.{WriteExclusive, ReadExclusive, ReadShared}
+use Rattle.tracker.specs.declared.State.{State}
+
+-- "G above 0 without Last"; of a Last that is kept: "any task kept not below T", and "Last beyond that task's Done".
+-- A Last of number 0 is none, so its task is not kept. A Last with G = 0 is not on the list.
+unfoldable pub lastSound : Position → ℕ → ℕ → List ℕ → Bool
+lastSound last tasks shares done =
+    cond (eqb (last .number) 0) (eqb shares 0) (ltb (last .task) tasks && leb (last .number) (getD done (last .task) 0))
+
+-- of a task: "Done above 65,535", "any share number above G" for its Seen, "Took beyond its Done"
+unfoldable pub taskSound : ℕ → ℕ → ℕ → ℕ → Bool
+taskSound done seen took shares = leb done 65535 && leb seen shares && leb took done
+
+-- of an object: "any task kept not below T" for its holder, "an object's share number 0", "any share number above G"
+unfoldable pub objectSound : Locality → ℕ → ℕ → Bool
+objectSound (WriteExclusive holder) tasks shares = ltb holder tasks
+objectSound (ReadExclusive holder) tasks shares = ltb holder tasks
+objectSound (ReadShared share) tasks shares = isWithin 1 shares share
+
+abbrev pub taskSoundAt : List ℕ → List ℕ → List ℕ → ℕ → ℕ → Bool
+taskSoundAt done seen took shares i = taskSound (getD done i 0) (getD seen i 0) (getD took i 0) shares
+
+-- each task, and "G above the sum of Done"
+unfoldable pub tasksSound : ℕ → ℕ → List ℕ → List ℕ → List ℕ → Bool
+tasksSound tasks shares done seen took = allBelow (taskSoundAt done seen took shares) tasks && leb shares (sumOf done tasks)
+
+abbrev pub objectSoundAt : State → ℕ → Bool
+objectSoundAt s i = objectSound (localityOf s i) (s .tasks) (s .shares)
+
+-- "T, N out of range" and all of the above
+unfoldable pub soundOf : State → Bool
+soundOf s =
+    isWithin 1 16 (s .tasks) && isWithin 1 256 (s .objects)
+    && lastSound (s .last) (s .tasks) (s .shares) (s .done)
+    && tasksSound (s .tasks) (s .shares) (s .done) (s .seen) (s .took)
+    && allBelow (objectSoundAt s) (s .objects)

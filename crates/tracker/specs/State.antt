@@ -1,0 +1,75 @@
+-- The recorder's state (document 01, "Tasks, objects, positions"): what is kept of each task and of each object.
+use mathlib.Core.Path.{_≡_}
+use Prim.Native.Nat.{ℕ}
+use lib.ListN.{length, getD, replicate}
+use Rattle.codec.specs.declared.Position.{Position}
+use Rattle.tracker.specs.declared.Locality.{Locality}
+use Rattle.tracker.specs.declared.Locality.the-variants.{WriteExclusive, ReadExclusive, ReadShared}
+use Rattle.tracker.specs.declared.ObjectRecord.{ObjectRecord}
+use Rattle.tracker.specs.declared.State.{State}
+
+-- Done(S): how many accesses S has made
+abbrev pub doneOf : State → ℕ → ℕ
+doneOf s task = getD (s .done) task 0
+
+-- Seen(S): a share number
+abbrev pub seenOf : State → ℕ → ℕ
+seenOf s task = getD (s .seen) task 0
+
+-- Took(S): the number of S's latest access by row 8
+abbrev pub tookOf : State → ℕ → ℕ
+tookOf s task = getD (s .took) task 0
+
+-- an object that one task has for writing
+abbrev pub owned : ℕ → ObjectRecord
+owned task = record { locality = WriteExclusive task }
+
+-- an object's state
+abbrev pub localityOf : State → ℕ → Locality
+localityOf s object = getD (s .records) object (owned 0) .locality
+
+-- T1 in the table: the task that has an object alone, and 0 of a shared one
+abbrev pub holderOf : Locality → ℕ
+holderOf (WriteExclusive task) = task
+holderOf (ReadExclusive task) = task
+holderOf (ReadShared share) = 0
+
+-- c in the table: the share number of a shared object, and 0 of any other
+abbrev pub shareOf : Locality → ℕ
+shareOf (WriteExclusive task) = 0
+shareOf (ReadExclusive task) = 0
+shareOf (ReadShared share) = share
+
+-- the position (S, s), and the one that stands for none
+abbrev pub position : ℕ → ℕ → Position
+position task number = record { task = task; number = number }
+
+abbrev pub nowhere : Position
+nowhere = position 0 0
+
+-- (S, Done(S)) and (S, Took(S))
+abbrev pub doneAt : State → ℕ → Position
+doneAt s task = position task (doneOf s task)
+
+abbrev pub tookAt : State → ℕ → Position
+tookAt s task = position task (tookOf s task)
+
+-- the blank state, all zero
+abbrev pub blankState : State
+blankState = record {
+  tasks = 0;
+  objects = 0;
+  records = replicate 256 (owned 0);
+  done = replicate 16 0;
+  seen = replicate 16 0;
+  took = replicate 16 0;
+  shares = 0;
+  last = nowhere;
+}
+
+-- the lists' lengths, which the state's type fixes
+pub record Shaped (s : State) : Type 0 where
+  pub records : length (s .records) ≡ 256
+  pub done : length (s .done) ≡ 16
+  pub seen : length (s .seen) ≡ 16
+  pub took : length (s .took) ≡ 16

@@ -1,0 +1,196 @@
+// An access by the transition table: `decide` picks what it does, and `moved` does it.
+ghost use mathlib.Core.Path.{_≡_};
+ghost use Prim.Native.Nat.{_+_, _<_, _^_};
+ghost use Rattle.tracker.specs.State.{holderOf, shareOf};
+ghost use Rattle.tracker.specs.ByRow.{plainPlan, sharePlan, fencePlan, takePlan, planBy};
+ghost use Rattle.tracker.specs.Plan.{Admits, planOf, movedOf};
+use crate::Locality;
+use crate::ObjectRecord;
+use crate::Plan;
+use crate::Row;
+use crate::State;
+use crate::table::row_of;
+use codec::Position;
+
+// What a row may change besides the object, before the access: Seen and Took of its task, G and Last; `here` is (T2, k).
+struct Entries {
+    here: Position,
+    seen: u32,
+    took: u16,
+    shares: u32,
+    last: Position,
+}
+
+// The task that has an object alone, and 0 of a shared one.
+fn holder_of(locality: Locality) -> u16
+    ensures { λ r. ⌜ r ≡ holderOf locality ⌝ }
+{
+    match locality {
+        Locality::WriteExclusive(holder) => holder,
+        Locality::ReadExclusive(holder) => holder,
+        Locality::ReadShared(_) => 0,
+    }
+}
+
+// The share number of a shared object, and 0 of any other.
+fn share_of(locality: Locality) -> u32
+    ensures { λ r. ⌜ r ≡ shareOf locality ⌝ }
+{
+    match locality {
+        Locality::WriteExclusive(_) => 0,
+        Locality::ReadExclusive(_) => 0,
+        Locality::ReadShared(share) => share,
+    }
+}
+
+// A row that changes the object alone: every one but 5, 6 and 8.
+fn plain(row: u8, locality: Locality, entries: Entries, first: Position) -> Plan
+    ensures { λ r. ⌜ r ≡ plainPlan row locality entries first ⌝ }
+{
+    let last = entries.last;
+    let second = Position { task: 0, number: 0 };
+    Plan {
+        row,
+        locality,
+        seen: entries.seen,
+        took: entries.took,
+        shares: entries.shares,
+        last,
+        first,
+        second,
+    }
+}
+
+// Row 5: the read makes the next share, and the task has seen it.
+fn share(entries: Entries, first: Position) -> Plan
+    requires { ⌜ entries .shares + 1 < 2 ^ 32 ⌝ }
+    ensures { λ r. ⌜ r ≡ sharePlan entries first ⌝ }
+{
+    let shares = entries.shares + 1;
+    let locality = Locality::ReadShared(shares);
+    let last = entries.here;
+    let second = entries.last;
+    Plan {
+        row: 5,
+        locality,
+        seen: shares,
+        took: entries.took,
+        shares,
+        last,
+        first,
+        second,
+    }
+}
+
+// Row 6: the task has now seen the object's share.
+fn fence(locality: Locality, entries: Entries) -> Plan
+    ensures { λ r. ⌜ r ≡ fencePlan locality entries ⌝ }
+{
+    let seen = share_of(locality);
+    let last = entries.last;
+    let second = Position { task: 0, number: 0 };
+    Plan {
+        row: 6,
+        locality,
+        seen,
+        took: entries.took,
+        shares: entries.shares,
+        last,
+        first: last,
+        second,
+    }
+}
+
+// Row 8: the task takes the object for reading, by this access.
+fn take(entries: Entries, first: Position) -> Plan
+    ensures { λ r. ⌜ r ≡ takePlan entries first ⌝ }
+{
+    let here = entries.here;
+    let locality = Locality::ReadExclusive(here.task);
+    let last = entries.last;
+    let second = Position { task: 0, number: 0 };
+    Plan {
+        row: 8,
+        locality,
+        seen: entries.seen,
+        took: here.number,
+        shares: entries.shares,
+        last,
+        first,
+        second,
+    }
+}
+
+// An access by its row: `done` is (T1, Done(T1)), and `took` is (T1, Took(T1)).
+fn by_row(row: Row, locality: Locality, entries: Entries, done: Position, took: Position) -> Plan
+    requires { ⌜ entries .shares + 1 < 2 ^ 32 ⌝ }
+    ensures { λ r. ⌜ r ≡ planBy row locality entries done took ⌝ }
+{
+    let here = entries.here;
+    let mine = Locality::WriteExclusive(here.task);
+    let none = Position { task: 0, number: 0 };
+    match row {
+        Row::One => plain(1, locality, entries, none),
+        Row::Two => plain(2, locality, entries, none),
+        Row::Three => plain(3, locality, entries, none),
+        Row::Four => plain(4, mine, entries, none),
+        Row::Five => share(entries, took),
+        Row::Six => fence(locality, entries),
+        Row::Seven => plain(7, mine, entries, done),
+        Row::Eight => take(entries, done),
+        Row::Nine => plain(9, mine, entries, done),
+        Row::Ten => plain(10, mine, entries, none),
+    }
+}
+
+// What an access does, by the table.
+pub fn decide(state: State, task: usize, object: usize, write: bool) -> Plan
+    requires { ⌜ Admits state task object ⌝ }
+    ensures { λ r. ⌜ r ≡ planOf state task object write ⌝ }
+{
+    let record = state.records[object];
+    let locality = record.locality;
+    let me = task as u16;
+    let here = Position {
+        task: me,
+        number: state.done[task] + 1,
+    };
+    let seen = state.seen[task];
+    let last = state.last;
+    let entries = Entries {
+        here,
+        seen,
+        took: state.took[task],
+        shares: state.shares,
+        last,
+    };
+    let holder = holder_of(locality);
+    let other = holder as usize;
+    let done = Position {
+        task: holder,
+        number: state.done[other],
+    };
+    let took = Position {
+        task: holder,
+        number: state.took[other],
+    };
+    let row = row_of(locality, me, seen, write);
+    by_row(row, locality, entries, done, took)
+}
+
+// The state after an access that goes as planned.
+pub fn moved(mut state: State, task: usize, object: usize, plan: Plan) -> State
+    requires { ⌜ Admits state task object ⌝ }
+    ensures { λ r. ⌜ r ≡ movedOf state task object plan ⌝ }
+{
+    let locality = plan.locality;
+    let record = ObjectRecord { locality };
+    let last = plan.last;
+    state.records[object] = record;
+    state.done[task] += 1;
+    state.seen[task] = plan.seen;
+    state.took[task] = plan.took;
+    state.shares = plan.shares;
+    state.last = last;
+    state
+}

@@ -1,0 +1,80 @@
+// The recorder's state, its soundness test and the transition table of document 01.
+ghost use mathlib.Core.Path.{_≡_};
+ghost use Rattle.tracker.specs.State.{blankState};
+use codec::Position;
+
+pub mod advance;
+pub mod sound;
+pub mod table;
+
+// Who has an object: one task for writing, one for reading, or every task by a share's number.
+// Document 01: write-held by S, read-held by S, shared c.
+pub enum Locality {
+    WriteExclusive(u16),
+    ReadExclusive(u16),
+    ReadShared(u32),
+}
+
+// What is kept of an object. Document 01: each object's record holds its state.
+pub struct ObjectRecord {
+    pub locality: Locality,
+}
+
+// The recorder's state. Document 01: T, N, the objects' records, Done, Seen, Took, G, Last.
+// There is no Last where its number is 0. Entries at T or N and above mean nothing.
+pub struct State {
+    pub tasks: u16,
+    pub objects: u16,
+    pub records: [ObjectRecord; 256],
+    pub done: [u16; 16],
+    pub seen: [u32; 16],
+    pub took: [u16; 16],
+    pub shares: u32,
+    pub last: Position,
+}
+
+// The rows of the transition table.
+pub enum Row {
+    One,
+    Two,
+    Three,
+    Four,
+    Five,
+    Six,
+    Seven,
+    Eight,
+    Nine,
+    Ten,
+}
+
+// An access by the table: its row's number, the object and the entries after it, and its orderings.
+// An ordering that is not there has number 0. Row 10 orders after every other task, and its two are not there.
+pub struct Plan {
+    pub row: u8,
+    pub locality: Locality,
+    pub seen: u32,
+    pub took: u16,
+    pub shares: u32,
+    pub last: Position,
+    pub first: Position,
+    pub second: Position,
+}
+
+// Document 01: the blank state, all zero.
+pub fn blank() -> State
+    ensures { λ r. ⌜ r ≡ blankState ⌝ }
+{
+    let locality = Locality::WriteExclusive(0);
+    let record = ObjectRecord { locality };
+    let last = Position { task: 0, number: 0 };
+    State {
+        tasks: 0,
+        objects: 0,
+        records: [record; 256],
+        done: [0u16; 16],
+        seen: [0u32; 16],
+        took: [0u16; 16],
+        shares: 0,
+        last,
+    }
+}

@@ -1,0 +1,101 @@
+// The soundness test of a recording state: one pass over the tasks, and one over the objects.
+ghost use mathlib.Core.Path.{_≡_};
+ghost use Prim.Native.Nat.{_≤_};
+ghost use Rattle.tracker.specs.Range.{isWithin};
+ghost use Rattle.tracker.specs.Sound.{lastSound, taskSound, tasksSound, objectSound, soundOf};
+use crate::Locality;
+use crate::State;
+use codec::Position;
+
+// `n` is `low` to `high`.
+fn within(low: u32, high: u32, n: u32) -> bool
+    ensures { λ r. ⌜ r ≡ isWithin low high n ⌝ }
+{
+    low <= n && n <= high
+}
+
+// Last is none, and then there is no share, or its task has made that access.
+fn last_sound(last: Position, tasks: u16, shares: u32, done: [u16; 16]) -> bool
+    requires { ⌜ tasks ≤ 16 ⌝ }
+    ensures { λ r. ⌜ r ≡ lastSound last tasks shares done ⌝ }
+{
+    if last.number == 0 {
+        return shares == 0;
+    }
+    if tasks <= last.task {
+        return false;
+    }
+    let task = last.task as usize;
+    last.number <= done[task]
+}
+
+// No Seen above G, no Took beyond Done; Done is at most 65,535 by its type.
+fn task_sound(done: u16, seen: u32, took: u16, shares: u32) -> bool
+    ensures { λ r. ⌜ r ≡ taskSound done seen took shares ⌝ }
+{
+    seen <= shares && took <= done
+}
+
+// A holder is a task, and a share number is 1 to G.
+fn object_sound(locality: Locality, tasks: u16, shares: u32) -> bool
+    ensures { λ r. ⌜ r ≡ objectSound locality tasks shares ⌝ }
+{
+    match locality {
+        Locality::WriteExclusive(holder) => holder < tasks,
+        Locality::ReadExclusive(holder) => holder < tasks,
+        Locality::ReadShared(share) => within(1, shares, share),
+    }
+}
+
+// Each task, and G at most the sum of Done.
+fn tasks_sound(tasks: u16, shares: u32, done: [u16; 16], seen: [u32; 16], took: [u16; 16]) -> bool
+    requires { ⌜ tasks ≤ 16 ⌝ }
+    ensures { λ r. ⌜ r ≡ tasksSound tasks shares done seen took ⌝ }
+{
+    let n = tasks as usize;
+    let mut sum: u32 = 0;
+    let mut i: usize = 0;
+    while i < n {
+        if !task_sound(done[i], seen[i], took[i], shares) {
+            return false;
+        }
+        sum += done[i] as u32;
+        i += 1;
+    }
+    shares <= sum
+}
+
+// Document 01: a sound recording state; number 17 is for any other.
+pub fn sound(state: State) -> bool
+    ensures { λ r. ⌜ r ≡ soundOf state ⌝ }
+{
+    let tasks = state.tasks;
+    let shares = state.shares;
+    let last = state.last;
+    let done = state.done;
+    let seen = state.seen;
+    let took = state.took;
+    if !within(1, 16, tasks as u32) {
+        return false;
+    }
+    if !within(1, 256, state.objects as u32) {
+        return false;
+    }
+    if !last_sound(last, tasks, shares, done) {
+        return false;
+    }
+    if !tasks_sound(tasks, shares, done, seen, took) {
+        return false;
+    }
+    let n = state.objects as usize;
+    let mut i: usize = 0;
+    while i < n {
+        let record = state.records[i];
+        let locality = record.locality;
+        if !object_sound(locality, tasks, shares) {
+            return false;
+        }
+        i += 1;
+    }
+    true
+}
