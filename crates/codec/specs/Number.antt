@@ -1,9 +1,41 @@
--- The numbers of document 01's number table that bytes can give.
+-- Document 01's number table.
 use Prim.Native.Nat.{ℕ}
+
+-- T not 1 to 16
+abbrev pub taskRange : ℕ
+taskRange = 1
+
+-- N not 1 to 256
+abbrev pub objectRange : ℕ
+objectRange = 2
+
+-- a list or memory not of N entries
+abbrev pub entries : ℕ
+entries = 3
+
+-- an owner not below T
+abbrev pub ownerRange : ℕ
+ownerRange = 4
 
 -- task not below T
 abbrev pub noTask : ℕ
 noTask = 5
+
+-- object not below N
+abbrev pub noObject : ℕ
+noObject = 6
+
+-- access neither 0 (read) nor 1 (write)
+abbrev pub noSort : ℕ
+noSort = 7
+
+-- the task has made 65,535 accesses
+abbrev pub full : ℕ
+full = 8
+
+-- output too short
+abbrev pub noRoom : ℕ
+noRoom = 9
 
 -- (a), (d): the record, or a section's body, is not all there
 abbrev pub short : ℕ
@@ -24,3 +56,7 @@ range = 13
 -- (a), (d) against a body's end, and a wrong count of accesses
 abbrev pub inBody : ℕ
 inBody = 14
+
+-- unsound state or run
+abbrev pub unsound : ℕ
+unsound = 17

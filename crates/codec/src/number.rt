@@ -1,7 +1,23 @@
-// The numbers of document 01's number table that bytes can give.
+// Document 01's number table.
 
+// 1: T not 1 to 16.
+pub const TASKS: u32 = 1;
+// 2: N not 1 to 256.
+pub const OBJECTS: u32 = 2;
+// 3: a list or memory not of N entries.
+pub const ENTRIES: u32 = 3;
+// 4: an owner not below T.
+pub const OWNER: u32 = 4;
 // 5: task not below T.
 pub const NO_TASK: u32 = 5;
+// 6: object not below N.
+pub const NO_OBJECT: u32 = 6;
+// 7: access neither 0 (read) nor 1 (write).
+pub const SORT: u32 = 7;
+// 8: the task has made 65,535 accesses.
+pub const FULL: u32 = 8;
+// 9: output too short.
+pub const ROOM: u32 = 9;
 // 10: (a), (d): the record, or a section's body, is not all there.
 pub const SHORT: u32 = 10;
 // 11: (b), (c), (e): no such kind, or a wrong length.
@@ -12,3 +28,5 @@ pub const MISPLACED: u32 = 12;
 pub const RANGE: u32 = 13;
 // 14: (a), (d) against a body's end, and a wrong count of accesses.
 pub const BODY: u32 = 14;
+// 17: unsound state or run.
+pub const UNSOUND: u32 = 17;

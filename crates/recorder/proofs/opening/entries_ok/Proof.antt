@@ -1,0 +1,21 @@
+use borrow.Author.Tests.{eq-eqb, ne-eqb}
+use Rattle.recorder.specs.OpenOf.{entriesOk}
+use Rattle.recorder.proofs.opening.entries_ok.Statement.{statement}
+use Rattle.recorder.proofs.opening.entries_ok.Tie as tie
+use Rattle.recorder.proofs.opening.entries_ok.Reads as reads
+use Rattle.recorder.proofs.opening.entries_ok.Lts as lts
+
+returns : tie.Need-returns
+unfolding entriesOk
+returns c = rw (ne-eqb _ _ (c .if1 .taken))
+
+returns-2 : tie.Need-returns-2
+unfolding entriesOk
+returns-2 c = rw (eq-eqb _ _ (c .before .if1 .left), ne-eqb _ _ (c .if2 .taken))
+
+returns-3 : tie.Need-returns-3
+unfolding entriesOk
+returns-3 c = rw (eq-eqb _ _ (c .before .if1 .left), eq-eqb _ _ (c .if2 .left))
+
+pub entries-ok-spec : {M : Type 1} → statement M
+entries-ok-spec = tie.close (tie.spec returns returns-2 returns-3)

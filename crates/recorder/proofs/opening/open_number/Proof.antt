@@ -1,0 +1,82 @@
+use mathlib.Core.Path.{sym, _∙_}
+use native.Mathlib.Omega.{arith}
+use borrow.Author.Tests.{not-true, not-false, lt-ltb, le-ltb}
+use Rattle.codec.specs.Kind.{headLength}
+use Rattle.tracker.specs.Range.{within-facts}
+use Rattle.recorder.specs.OpenOf.{openNumber}
+use borrow.Author.Needs.{needs}
+use Rattle.recorder.proofs.opening.open_number.Statement.{statement}
+use Rattle.recorder.proofs.opening.open_number.Tie as tie
+use Rattle.recorder.proofs.opening.open_number.Reads as reads
+use Rattle.recorder.proofs.opening.open_number.Lts as lts
+use Rattle.codec.proofs.kind.length_of.Reads as length-of-reads
+use Rattle.recorder.proofs.opening.entries_ok.Reads as entries-ok-reads
+use Rattle.recorder.proofs.opening.owners_below.Reads as owners-below-reads
+use Rattle.recorder.proofs.opening.within.Reads as within-reads
+
+within-requires : tie.Need-within-requires
+within-requires c κs = search needs
+
+returns : tie.Need-returns
+unfolding openNumber
+returns c = rw (sym (c .before .within .ensures) ∙ not-true _ (c .if1 .taken))
+
+within-requires-2 : tie.Need-within-requires-2
+within-requires-2 c κs = search needs
+
+returns-2 : tie.Need-returns-2
+unfolding openNumber
+returns-2 c = rw (sym (c .before .before .before .within .ensures) ∙ not-false _ (c .before .before .if1 .left), sym (c .before .within2 .ensures) ∙ not-true _ (c .if2 .taken))
+
+entries-ok-requires : tie.Need-entries-ok-requires
+entries-ok-requires c κs = search needs
+
+returns-3 : tie.Need-returns-3
+unfolding openNumber
+returns-3 c = rw (sym (c .before .before .before .before .before .within .ensures) ∙ not-false _ (c .before .before .before .before .if1 .left), sym (c .before .before .before .within2 .ensures) ∙ not-false _ (c .before .before .if2 .left), sym (c .before .entries-ok .ensures) ∙ not-true _ (c .if3 .taken))
+
+owners-below-requires : tie.Need-owners-below-requires
+owners-below-requires c κs = search needs
+
+returns-4 : tie.Need-returns-4
+unfolding openNumber
+returns-4 c = rw (sym (c .before .before .before .before .before .before .before .within .ensures) ∙ not-false _ (c .before .before .before .before .before .before .if1 .left), sym (c .before .before .before .before .before .within2 .ensures) ∙ not-false _ (c .before .before .before .before .if2 .left), sym (c .before .before .before .entries-ok .ensures) ∙ not-false _ (c .before .before .if3 .left), sym (c .before .owners-below .ensures) ∙ not-true _ (c .if4 .taken))
+
+length-of-requires : tie.Need-length-of-requires
+length-of-requires c κs = search needs
+
+cast-if5 : tie.Need-cast-if5
+cast-if5 c = search needs
+
+mul-if5 : tie.Need-mul-if5
+mul-if5 c = omega (arith, within-facts 1 256 _ (sym (c .before .before .before .before .before .before .within2 .ensures) ∙ not-false _ (c .before .before .before .before .before .if2 .left)) .1)
+
+add-if5 : tie.Need-add-if5
+add-if5 c = omega (arith, within-facts 1 256 _ (sym (c .before .before .before .before .before .before .within2 .ensures) ∙ not-false _ (c .before .before .before .before .before .if2 .left)) .1)
+
+returns-5 : tie.Need-returns-5
+unfolding openNumber
+returns-5 c = rw (sym (c .before .before .before .before .before .before .before .before .before .within .ensures) ∙ not-false _ (c .before .before .before .before .before .before .before .before .if1 .left), sym (c .before .before .before .before .before .before .before .within2 .ensures) ∙ not-false _ (c .before .before .before .before .before .before .if2 .left), sym (c .before .before .before .before .before .entries-ok .ensures) ∙ not-false _ (c .before .before .before .before .if3 .left), sym (c .before .before .before .owners-below .ensures) ∙ not-false _ (c .before .before .if4 .left), lt-ltb (c .before .before .before .before .before .before .before .before .before .before .before .args .out) (headLength (c .before .before .before .before .before .before .before .before .before .before .before .args .objects)) (omega arith))
+
+returns-6 : tie.Need-returns-6
+unfolding openNumber
+returns-6 c = rw (sym (c .before .before .before .before .before .before .before .before .before .within .ensures) ∙ not-false _ (c .before .before .before .before .before .before .before .before .if1 .left), sym (c .before .before .before .before .before .before .before .within2 .ensures) ∙ not-false _ (c .before .before .before .before .before .before .if2 .left), sym (c .before .before .before .before .before .entries-ok .ensures) ∙ not-false _ (c .before .before .before .before .if3 .left), sym (c .before .before .before .owners-below .ensures) ∙ not-false _ (c .before .before .if4 .left), le-ltb (c .before .before .before .before .before .before .before .before .before .before .before .args .out) (headLength (c .before .before .before .before .before .before .before .before .before .before .before .args .objects)) (omega arith))
+
+pub open-number-spec : {M : Type 1} → statement M
+open-number-spec =
+    tie.close
+    (tie.spec
+    within-requires
+    returns
+    within-requires-2
+    returns-2
+    entries-ok-requires
+    returns-3
+    owners-below-requires
+    returns-4
+    length-of-requires
+    cast-if5
+    mul-if5
+    add-if5
+    returns-5
+    returns-6)

@@ -1,0 +1,107 @@
+// Pieces of opening: the checks in their order, the objects' records, the lent memory.
+ghost use mathlib.Core.Path.{_≡_};
+ghost use Prim.Native.Nat.{_≤_};
+ghost use lib.ListN.{length};
+ghost use Rattle.reader.specs.Parse.{allBelow};
+ghost use Rattle.tracker.specs.Opened.{ownedRecords};
+ghost use Rattle.tracker.specs.Range.{isWithin};
+ghost use Rattle.recorder.specs.OpenOf.{entriesOk, openNumber};
+use codec::kind::HEAD;
+use codec::kind::length_of;
+use codec::number::ENTRIES;
+use codec::number::OBJECTS;
+use codec::number::OWNER;
+use codec::number::ROOM;
+use codec::number::TASKS;
+use tracker::Locality;
+use tracker::ObjectRecord;
+
+// Each owner is below T.
+pub fn owners_below(owners: &[u8], tasks: usize) -> bool
+    ensures { λ r. ⌜ r ≡ allBelow tasks (now (owners .entry)) ⌝ }
+{
+    for i in 0..owners.len() {
+        if tasks <= owners[i] as usize {
+            return false;
+        }
+    }
+    true
+}
+
+// `n` is `low` to `high`.
+fn within(low: usize, high: usize, n: usize) -> bool
+    ensures { λ r. ⌜ r ≡ isWithin low high n ⌝ }
+{
+    if n < low {
+        return false;
+    }
+    n <= high
+}
+
+// The lists and the memory have N entries.
+fn entries_ok(objects: usize, owners: usize, starts: usize, memory: usize) -> bool
+    ensures { λ r. ⌜ r ≡ entriesOk objects owners starts memory ⌝ }
+{
+    if owners != objects {
+        return false;
+    }
+    if starts != objects {
+        return false;
+    }
+    memory == objects
+}
+
+// The number of an opening: 1, 2, 3, 4, 9, in this order.
+pub fn open_number(
+    tasks: usize,
+    objects: usize,
+    owners: &[u8],
+    starts: usize,
+    memory: usize,
+    out: usize,
+) -> u32
+    ensures { λ r. ⌜ r ≡ openNumber tasks objects (now (owners .entry)) starts memory out ⌝ }
+{
+    if !within(1, 16, tasks) {
+        return TASKS;
+    }
+    if !within(1, 256, objects) {
+        return OBJECTS;
+    }
+    if !entries_ok(objects, owners.len(), starts, memory) {
+        return ENTRIES;
+    }
+    if !owners_below(owners, tasks) {
+        return OWNER;
+    }
+    if out < (length_of(HEAD) as usize) + 5 * objects {
+        return ROOM;
+    }
+    0
+}
+
+// Each object write-exclusive of its owner.
+pub fn owned_records(owners: &[u8]) -> [ObjectRecord; 256]
+    requires { ⌜ length (now owners) ≤ 256 ⌝ }
+    ensures { λ r. ⌜ r ≡ ownedRecords (now (owners .entry)) (length (now (owners .entry))) ⌝ }
+{
+    let first = Locality::WriteExclusive(0);
+    let blank = ObjectRecord { locality: first };
+    let mut records = [blank; 256];
+    for i in 0..owners.len() {
+        let locality = Locality::WriteExclusive(owners[i] as u16);
+        let record = ObjectRecord { locality };
+        records[i] = record;
+    }
+    records
+}
+
+// The lent memory set to the starting values.
+pub fn set_memory(memory: &mut [u32], starts: &[u32])
+    requires { ⌜ length (now memory) ≡ length (now starts) ⌝ }
+    ensures { λ r. ⌜ now (memory .exit) ≡ now (starts .entry) ⌝ }
+{
+    for i in 0..starts.len() {
+        memory[i] = starts[i];
+    }
+}
