@@ -1,2 +1,5 @@
 pub mod OpenOf
 pub mod OpenTurn
+pub mod AccessOf
+pub mod LogTurn
+pub mod AccessTurn
