@@ -5,3 +5,7 @@ pub mod LogTurn
 pub mod AccessTurn
 pub mod SectionOf
 pub mod SectionTurn
+pub mod WholeRun
+pub mod Runs
+pub mod Accepted
+pub mod Full
