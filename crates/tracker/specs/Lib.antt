@@ -15,4 +15,6 @@ pub mod Written
 pub mod After
 pub mod Kept
 pub mod Named
+pub mod Covers
+pub mod Implied
 pub mod Runs
