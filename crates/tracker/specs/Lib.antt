@@ -17,4 +17,6 @@ pub mod Kept
 pub mod Named
 pub mod Covers
 pub mod Implied
+pub mod Covered
+pub mod Moves
 pub mod Runs
