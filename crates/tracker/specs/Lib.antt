@@ -19,4 +19,6 @@ pub mod Covers
 pub mod Implied
 pub mod Covered
 pub mod Moves
+pub mod Invariant
+pub mod Effects
 pub mod Runs
