@@ -21,4 +21,5 @@ pub mod Covered
 pub mod Moves
 pub mod Invariant
 pub mod Effects
+pub mod EachRow
 pub mod Runs

@@ -3,12 +3,12 @@
 use mathlib.Core.Path.{_≡_, refl}
 use mathlib.Core.List.{_∷_}
 use mathlib.Core.Bool.{false}
-use Prim.Native.Nat.{ℕ, suc, _≤_, _<_}
+use Prim.Native.Nat.{ℕ, _≤_, _<_}
 use native.Mathlib.Omega.{arith}
 use Rattle.history.specs.Entry.{Entry, touches, writes, untouched-unwritten}
 use Rattle.history.specs.History.{History, count}
 use Rattle.history.specs.Sound.{Follows}
-use Rattle.tracker.specs.State.{doneOf, seenOf, tookOf, doneAt, tookAt, position}
+use Rattle.tracker.specs.State.{doneOf, seenOf, tookOf, doneAt, tookAt}
 use Rattle.tracker.specs.Covers.{Covers, Awaits, covers-more, covers-own, follows-covered}
 use Rattle.tracker.specs.Covered.{Covered, write-exclusive, read-exclusive, read-shared}
 use Rattle.tracker.specs.declared.Locality.{Locality}
@@ -23,7 +23,7 @@ pub data SeenMoves (e : Entry) (h : History) (s after : State) (task : ℕ) : Ty
 -- Last moves only to the access itself, which then awaits the Last before it.
 pub data LastMoves (e : Entry) (h : History) (s after : State) : Type 0 where
   last-stays : after .last ≡ s .last → LastMoves e h s after
-  last-moves : after .last ≡ position (e .task) (suc (count (e .task) h)) → Awaits e h (s .last) → LastMoves e h s after
+  last-moves : after .last .task ≡ e .task → count (e .task) h < after .last .number → Awaits e h (s .last) → LastMoves e h s after
 
 pub record Moves (e : Entry) (h : History) (s after : State) : Type 0 where
   pub tasks : after .tasks ≡ s .tasks
@@ -44,7 +44,7 @@ module _ {e : Entry} {h : History} {s after : State} (m : Moves e h s after) (ob
       last-after : Covers (e ∷ h) (after .last) (writes object)
       last-after = elim (m .last) [
         | last-stays p ↦ rw p (covers-more e (s .last) w refl (omega arith) last)
-        | last-moves p awaits ↦ rw p (covers-own _ refl (omega arith) (follows awaits))
+        | last-moves own newer awaits ↦ covers-own (after .last) own newer (follows awaits)
       ]
 
       seen-after : (task : ℕ) → task < after .tasks → share ≤ seenOf after task → Covers (e ∷ h) (doneAt after task) (writes object)
