@@ -15,7 +15,7 @@ use Rattle.tracker.specs.Written.{written-in, written-keeps}
 use Rattle.tracker.specs.Covers.{Awaits}
 
 -- a list is met if each of its orderings is
-met-from : (d : ℕ → ℕ) (l : List Position) → ((p : Position) → List·Memᴰ p l → p .number ≤ d (p .task)) → Met d l
+pub met-from : (d : ℕ → ℕ) (l : List Position) → ((p : Position) → List·Memᴰ p l → p .number ≤ d (p .task)) → Met d l
 met-from d [] each = tt
 met-from d (p ∷ l) each = (each p (List·Memᴰ·head refl), met-from d l (λ q m. each q (List·Memᴰ·tail m)))
 

@@ -22,4 +22,6 @@ pub mod Moves
 pub mod Invariant
 pub mod Effects
 pub mod EachRow
+pub mod Accesses
+pub mod ReferenceMemory
 pub mod Runs
