@@ -24,4 +24,5 @@ pub mod Effects
 pub mod EachRow
 pub mod Accesses
 pub mod ReferenceMemory
+pub mod OneAccess
 pub mod Runs
