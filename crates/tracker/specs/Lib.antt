@@ -25,4 +25,5 @@ pub mod EachRow
 pub mod Accesses
 pub mod ReferenceMemory
 pub mod OneAccess
+pub mod Tracks
 pub mod Runs
