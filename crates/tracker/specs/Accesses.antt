@@ -49,11 +49,11 @@ momentAfter m a = record {
 }
 
 -- the accesses in turn
-abbrev pub momentAfterAll : Moment → List Access → Moment
+unfoldable pub momentAfterAll : Moment → List Access → Moment
 momentAfterAll m [] = m
 momentAfterAll m (a ∷ rest) = momentAfterAll (momentAfter m a) rest
 
 -- each access is accepted in the state that it meets
-abbrev pub AllAccepted : State → List Access → Type 0
+unfoldable pub AllAccepted : State → List Access → Type 0
 AllAccepted s [] = Unit {0}
 AllAccepted s (a ∷ rest) = Accepts s (a .task) (a .object) × AllAccepted (nextOf s (a .task) (a .object) (a .write)) rest

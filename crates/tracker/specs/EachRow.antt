@@ -2,22 +2,22 @@
 -- its object stays covered. The other objects are in Moves.
 use mathlib.Core.Bool.{Bool, true, false}
 use mathlib.Core.List.{_∷_, List·Memᴰ, List·Memᴰ·head, List·Memᴰ·tail}
-use mathlib.Core.Path.{_≡_, refl, sym}
-use Prim.Native.Nat.{ℕ, _+_, _≤_, _<_}
+use mathlib.Core.Path.{_≡_, refl}
+use Prim.Native.Nat.{ℕ, _+_, _<_}
 use native.Mathlib.Omega.{arith}
 use native.Mathlib.Decide.{ℕ-discrete}
 use Rattle.codec.specs.declared.Position.{Position}
 use Rattle.history.specs.Entry.{Act, Entry, touches, writes, writes-touches}
-use Rattle.history.specs.History.{History, count, At, at-lt}
+use Rattle.history.specs.History.{History, count, at-lt}
 use Rattle.history.specs.Sound.{Follows}
-use Rattle.tracker.specs.State.{doneOf, seenOf, tookOf, doneAt, tookAt}
+use Rattle.tracker.specs.State.{doneOf, seenOf, doneAt, tookAt}
 use Rattle.tracker.specs.View.{View, one, two, three, four, five, six, seven, eight, nine, ten}
 use Rattle.tracker.specs.Orderings.{orderingsOf}
 use Rattle.tracker.specs.Written.{every-has}
 use Rattle.tracker.specs.Next.{localityAfter, unchanged, effectOf}
-use Rattle.tracker.specs.Covers.{Covers, Awaits, covers-more, covers-own, follows-covered, follows-fewer, awaits-own}
+use Rattle.tracker.specs.Covers.{Awaits, covers-more, covers-own, follows-covered, follows-fewer, awaits-own}
 use Rattle.tracker.specs.Covered.{Covered, write-exclusive, read-exclusive, read-shared}
-use Rattle.tracker.specs.Moves.{Moves, seen-stays, seen-moves, last-stays, last-moves, shared-stays}
+use Rattle.tracker.specs.Moves.{Moves, seen-stays, seen-moves, last-stays, last-moves, done-covers, shared-stays}
 use Rattle.tracker.specs.Effects.{Leaves, moves, plain-moves}
 use Rattle.tracker.specs.Invariant.{Invariant}
 use Rattle.tracker.specs.declared.Locality.{Locality}
@@ -40,6 +40,7 @@ pub record RowKeeps (e : Entry) (h : History) (s after : State) (object : ℕ) (
   pub covered : Covered (e ∷ h) after object l
 
 module _ (e : Entry) (h : History) (s after : State) (object : ℕ) (i : Invariant s h) (low : e .task < s .tasks) where
+  -- Done before the access
   number : doneOf s (e .task) ≡ count (e .task) h
   number = i .counts (e .task)
 
@@ -51,7 +52,7 @@ module _ (e : Entry) (h : History) (s after : State) (object : ℕ) (i : Invaria
       → RowKeeps e h s after object write (WriteExclusive (e .task))
   to-writer write k f =
       let m : Moves e h s after = plain-moves k number in
-      record { follows = follows-any write object f; moves = m; covered = write-exclusive (covers-own (doneAt after (e .task)) refl (m .done-own) f) }
+      record { follows = follows-any write object f; moves = m; covered = write-exclusive (done-covers m f) }
 
   -- row 10: what every task has done is awaited, so every entry is followed
   follows-every : ((task : ℕ) → task < s .tasks → Awaits e h (doneAt s task)) → Follows e h (touches object)
@@ -70,8 +71,7 @@ module _ (e : Entry) (h : History) (s after : State) (object : ℕ) (i : Invaria
       record {
         follows = follows-any false object f;
         moves = m;
-        covered = read-exclusive (covers-more e (tookAt after (e .task)) (reads refl) refl (m .took (e .task)) took)
-            (covers-own (doneAt after (e .task)) refl (m .done-own) f);
+        covered = read-exclusive (covers-more e (tookAt after (e .task)) (reads refl) refl (m .took (e .task)) took) (done-covers m f);
       }
   row-keeps (three share seen-high) (read-shared last seen) k awaits reads =
       let m : Moves e h s after = plain-moves k number in
@@ -91,7 +91,7 @@ module _ (e : Entry) (h : History) (s after : State) (object : ℕ) (i : Invaria
         follows = f;
         moves = m;
         covered = read-shared {share = s .shares + 1} (covers-own (after .last) own newer f) (λ task task-low high. elim (ℕ-discrete task (e .task)) [
-          | yes p ↦ rw p (covers-own (doneAt after (e .task)) refl (m .done-own) f)
+          | yes p ↦ rw p (done-covers m f)
           | no p ↦ absurd (omega (arith, k .other-seen task p, i .sound .task task (rw (k .tasks) at task-low) .seen-low))
         ]);
       }
@@ -110,8 +110,7 @@ module _ (e : Entry) (h : History) (s after : State) (object : ℕ) (i : Invaria
       record {
         follows = follows-any false object f;
         moves = m;
-        covered = read-exclusive (covers-own (tookAt after (e .task)) refl (omega (arith, number, k .took)) (follows-any false object f))
-            (covers-own (doneAt after (e .task)) refl (m .done-own) f);
+        covered = read-exclusive (covers-own (tookAt after (e .task)) refl (omega (arith, number, k .took)) (follows-any false object f)) (done-covers m f);
       }
   row-keeps (nine holder other) (read-exclusive took all) k awaits reads = to-writer true k (follows-covered (awaits (doneAt s holder) (List·Memᴰ·head refl)) all)
   row-keeps (ten share) c k awaits reads = to-writer true k (follows-every (λ task task-low. awaits (doneAt s task) (every-has (s .done) (s .tasks) task task-low)))

@@ -1,7 +1,7 @@
 -- What a row leaves in Done, Seen, Took and Last (document 01, "other effects"), as one record of equations; and when that is
 -- a move which keeps other objects covered.
 use mathlib.Core.Bool.{Bool}
-use mathlib.Core.Path.{_≡_, refl}
+use mathlib.Core.Path.{_≡_}
 use Prim.Native.Nat.{ℕ, _+_, _≤_, _<_}
 use native.Mathlib.Omega.{arith}
 use native.Mathlib.Decide.{ℕ-discrete}

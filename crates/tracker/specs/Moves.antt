@@ -2,10 +2,10 @@
 -- stated of any entry and any two states: an entry that touches no object keeps them all.
 use mathlib.Core.Path.{_≡_, refl}
 use mathlib.Core.List.{_∷_}
-use mathlib.Core.Bool.{false}
+use mathlib.Core.Bool.{Bool, false}
 use Prim.Native.Nat.{ℕ, _≤_, _<_}
 use native.Mathlib.Omega.{arith}
-use Rattle.history.specs.Entry.{Entry, touches, writes, untouched-unwritten}
+use Rattle.history.specs.Entry.{Act, Entry, touches, writes, untouched-unwritten}
 use Rattle.history.specs.History.{History, count}
 use Rattle.history.specs.Sound.{Follows}
 use Rattle.tracker.specs.State.{doneOf, seenOf, tookOf, doneAt, tookAt}
@@ -33,6 +33,11 @@ pub record Moves (e : Entry) (h : History) (s after : State) : Type 0 where
   pub seen : (task : ℕ) → SeenMoves e h s after task
   pub last : LastMoves e h s after
 
+-- the accessing task's Done covers all that its access follows, and the access
+pub done-covers : {e : Entry} {h : History} {s after : State} {test : Act → Bool} → Moves e h s after → Follows e h test
+    → Covers (e ∷ h) (doneAt after (e .task)) test
+done-covers {e} {after} m f = covers-own (doneAt after (e .task)) refl (m .done-own) f
+
 module _ {e : Entry} {h : History} {s after : State} (m : Moves e h s after) (object : ℕ) where
   -- a shared object that is not written stays covered, though it may be read
   pub shared-stays : {share : ℕ} → writes object (e .act) ≡ false → Covered h s object (ReadShared share) → Covered (e ∷ h) after object (ReadShared share)
@@ -50,7 +55,7 @@ module _ {e : Entry} {h : History} {s after : State} (m : Moves e h s after) (ob
       seen-after : (task : ℕ) → task < after .tasks → share ≤ seenOf after task → Covers (e ∷ h) (doneAt after task) (writes object)
       seen-after task low high = elim (m .seen task) [
         | seen-stays p ↦ covers-more e (doneAt after task) w refl (m .done task) (seen task (rw (m .tasks) at low) (rw p at high))
-        | seen-moves p awaits ↦ rw p (covers-own _ refl (m .done-own) (follows awaits))
+        | seen-moves p awaits ↦ rw p (done-covers m (follows awaits))
       ]
 
   -- an object that is not touched stays covered

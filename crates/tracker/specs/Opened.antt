@@ -33,6 +33,14 @@ openedState tasks objects owners = record {
   last = nowhere;
 }
 
+-- what the number table asks of an opening: 1, 2 and 4
+pub record Opens (tasks objects : ℕ) (owners : List ℕ) : Type 0 where
+  pub some-task : 1 ≤ tasks
+  pub tasks-fit : tasks ≤ 16
+  pub some-object : 1 ≤ objects
+  pub objects-fit : objects ≤ 256
+  pub owners-low : (object : ℕ) → object < objects → getD owners object 0 < tasks
+
 pub records-none : (owners : List ℕ) → ownedRecords owners 0 ≡ replicate 256 (owned 0)
 unfolding ownedRecords
 records-none owners = refl

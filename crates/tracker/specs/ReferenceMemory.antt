@@ -3,7 +3,7 @@
 -- memory, and gives the values of the history's entries.
 use mathlib.Core.Bool.{Bool, true, false}
 use mathlib.Core.List.{List, [], _∷_, _++_, append-assoc, append-nil}
-use mathlib.Core.Path.{_≡_, refl, sym, _∙_}
+use mathlib.Core.Path.{_≡_, refl, sym}
 use Prim.Native.Nat.{ℕ}
 use Rattle.history.specs.Entry.{valueOf}
 use Rattle.history.specs.History.{History}
@@ -16,18 +16,18 @@ abbrev pub valueGiven : (ℕ → ℕ) → ℕ → Bool → ℕ → ℕ
 valueGiven memory object true value = value
 valueGiven memory object false value = memory object
 
-abbrev pub memoryAfterAll : (ℕ → ℕ) → List Access → ℕ → ℕ
+unfoldable pub memoryAfterAll : (ℕ → ℕ) → List Access → ℕ → ℕ
 memoryAfterAll memory [] = memory
 memoryAfterAll memory (a ∷ rest) = memoryAfterAll (memoryAfter memory (a .object) (a .write) (a .value)) rest
 
 -- the values that the accesses give, in turn
-abbrev pub valuesGiven : (ℕ → ℕ) → List Access → List ℕ
+unfoldable pub valuesGiven : (ℕ → ℕ) → List Access → List ℕ
 valuesGiven memory [] = []
 valuesGiven memory (a ∷ rest) =
     valueGiven memory (a .object) (a .write) (a .value) ∷ valuesGiven (memoryAfter memory (a .object) (a .write) (a .value)) rest
 
 -- the values of a history's entries, oldest first
-abbrev pub valuesIn : History → List ℕ
+unfoldable pub valuesIn : History → List ℕ
 valuesIn [] = []
 valuesIn (e ∷ g) = valuesIn g ++ (valueOf (e .act) ∷ [])
 
@@ -46,16 +46,19 @@ reference-after start h s memory task object false value c same = same
 
 -- A LIST OF ACCESSES
 pub memory-all : (m : Moment) (accesses : List Access) → momentAfterAll m accesses .memory ≡ memoryAfterAll (m .memory) accesses
+unfolding momentAfterAll memoryAfterAll
 memory-all m [] = refl
 memory-all m (a ∷ rest) = memory-all (momentAfter m a) rest
 
 pub reference-all : (start : ℕ → ℕ) (m : Moment) (accesses : List Access) → ((c : ℕ) → m .memory c ≡ reference start (m .history) c)
     → (c : ℕ) → memoryAfterAll (m .memory) accesses c ≡ reference start (momentAfterAll m accesses .history) c
+unfolding momentAfterAll memoryAfterAll
 reference-all start m [] same c = same c
 reference-all start m (a ∷ rest) same c =
     reference-all start (momentAfter m a) rest (λ x. reference-after start (m .history) (m .state) (m .memory) (a .task) (a .object) (a .write) (a .value) x (same x)) c
 
 pub values-all : (m : Moment) (accesses : List Access) → valuesIn (momentAfterAll m accesses .history) ≡ valuesIn (m .history) ++ valuesGiven (m .memory) accesses
+unfolding momentAfterAll valuesGiven valuesIn
 values-all m [] = sym (append-nil (valuesIn (m .history)))
 values-all m (a ∷ rest) =
     rw (values-all (momentAfter m a) rest, value-given (m .state) (m .memory) (a .task) (a .object) (a .write) (a .value)) (append-assoc (valuesIn (m .history)) _ _)

@@ -2,17 +2,18 @@
 -- `Tracks` says which state, memory and history accepted accesses lead to; the theorems below hold of all of them.
 use mathlib.Core.Bool.{Bool, true, false}
 use mathlib.Core.List.{List, [], _∷_}
-use mathlib.Core.Path.{_≡_, refl, sym, ap, _∙_}
-use Prim.Native.Nat.{ℕ, _≤_, _<_}
+use mathlib.Core.Path.{_≡_, sym, _∙_}
+use Prim.Native.Nat.{ℕ, _<_}
 use native.Mathlib.Omega.{arith}
-use lib.ListN.{getD}
 use Rattle.history.specs.Entry.{Act, Entry}
 use Rattle.history.specs.History.{History, count, count-none, At, at-nil}
 use Rattle.history.specs.Memory.{reference, reference-none}
 use Rattle.history.specs.Sound.{Sound as SoundHistory, sound-none, sound-more}
 use Rattle.tracker.specs.State.{doneOf}
 use Rattle.tracker.specs.Next.{nextOf}
-use Rattle.tracker.specs.Opened.{openedState, opened-shaped, opened-objects, opened-done, opened-owner, opened-facts}
+use Rattle.tracker.specs.Opened.{openedState, Opens, opened-shaped, opened-objects, opened-done, opened-owner, opened-facts}
+use Rattle.tracker.specs.Sound.{soundOf}
+use Rattle.tracker.specs.Facts.{sound-test}
 use Rattle.tracker.specs.Kept.{Accepts}
 use Rattle.tracker.specs.Covers.{covers-none}
 use Rattle.tracker.specs.Covered.{write-exclusive}
@@ -22,26 +23,19 @@ use Rattle.tracker.specs.ReferenceMemory.{reference-after}
 use Rattle.tracker.specs.OneAccess.{access-points-back, access-follows, access-keeps}
 use Rattle.tracker.specs.declared.State.{State}
 
--- what the number table asks of an opening: 1, 2 and 4
-pub record Opens (tasks objects : ℕ) (owners : List ℕ) : Type 0 where
-  pub some-task : 1 ≤ tasks
-  pub tasks-fit : tasks ≤ 16
-  pub some-object : 1 ≤ objects
-  pub objects-fit : objects ≤ 256
-  pub owners-low : (object : ℕ) → object < objects → getD owners object 0 < tasks
-
 -- from an opening with these starting values, accepted accesses led to this state, memory by object, and history
 pub data Tracks (start : ℕ → ℕ) : State → (ℕ → ℕ) → History → Type 0 where
   tracks-opened : (tasks objects : ℕ) (owners : List ℕ) → Opens tasks objects owners → Tracks start (openedState tasks objects owners) start []
-  tracks-more : {s : State} {memory : ℕ → ℕ} {h : History} (task object : ℕ) (write : Bool) (value : ℕ) → Accepts s task object → Tracks start s memory h
+  tracks-more : {s : State} {memory : ℕ → ℕ} {h : History} (task object : ℕ) (write : Bool) (value : ℕ) → Tracks start s memory h → Accepts s task object
       → Tracks start (nextOf s task object write) (memoryAfter memory object write value) (entryOf s task object write value (memory object) ∷ h)
 
 -- a list of accepted accesses, by their fold
-pub tracks-all : {start : ℕ → ℕ} (m : Moment) (accesses : List Access) → AllAccepted (m .state) accesses → Tracks start (m .state) (m .memory) (m .history)
+pub tracks-all : {start : ℕ → ℕ} (m : Moment) (accesses : List Access) → Tracks start (m .state) (m .memory) (m .history) → AllAccepted (m .state) accesses
     → Tracks start (momentAfterAll m accesses .state) (momentAfterAll m accesses .memory) (momentAfterAll m accesses .history)
-tracks-all m [] accepted t = t
-tracks-all m (a ∷ rest) accepted t =
-    tracks-all (momentAfter m a) rest (accepted .1) (tracks-more (a .task) (a .object) (a .write) (a .value) (accepted .0) t)
+unfolding momentAfterAll AllAccepted
+tracks-all m [] t accepted = t
+tracks-all m (a ∷ rest) t accepted =
+    tracks-all (momentAfter m a) rest (tracks-more (a .task) (a .object) (a .write) (a .value) t (accepted .0)) (accepted .1)
 
 pub tracks-invariant : {start : ℕ → ℕ} {s : State} {memory : ℕ → ℕ} {h : History} → Tracks start s memory h → Invariant s h
 tracks-invariant (tracks-opened tasks objects owners o) = record {
@@ -52,13 +46,13 @@ tracks-invariant (tracks-opened tasks objects owners o) = record {
   covered = λ object low.
       rw (opened-owner tasks objects owners object (o .objects-fit) (rw (opened-objects tasks objects owners) at low)) (write-exclusive (covers-none _ _));
 }
-tracks-invariant (tracks-more {s = s} {memory = memory} task object write value a t) =
+tracks-invariant (tracks-more {s = s} {memory = memory} task object write value t a) =
     access-keeps s task object write value (memory object) (tracks-invariant t) a
 
 -- the memory is the history's reference memory
 pub tracks-memory : {start : ℕ → ℕ} {s : State} {memory : ℕ → ℕ} {h : History} → Tracks start s memory h → (c : ℕ) → memory c ≡ reference start h c
 tracks-memory {start} (tracks-opened tasks objects owners o) c = sym (reference-none start c)
-tracks-memory {start} (tracks-more {s = s} {memory = memory} {h = h} task object write value a t) c =
+tracks-memory {start} (tracks-more {s = s} {memory = memory} {h = h} task object write value t a) c =
     reference-after start h s memory task object write value c (tracks-memory t c)
 
 -- a read's entry has the value that its object held
@@ -68,15 +62,29 @@ read-holds object false value held c v memory same p = cc
 
 pub tracks-sound : {start : ℕ → ℕ} {s : State} {memory : ℕ → ℕ} {h : History} → Tracks start s memory h → SoundHistory start h
 tracks-sound {start} (tracks-opened tasks objects owners o) = sound-none start
-tracks-sound {start} (tracks-more {s = s} {memory = memory} {h = h} task object write value a t) =
+tracks-sound {start} (tracks-more {s = s} {memory = memory} {h = h} task object write value t a) =
     let i : Invariant s h = tracks-invariant t in
     sound-more (tracks-sound t) (access-points-back s task object write value (memory object) i a) (access-follows s task object write value (memory object) i a)
     (λ c v p. read-holds object write value (memory object) c v (reference start h) (tracks-memory t object) p)
 
--- Done(S) is how many entries are S's
-pub tracks-done : {start : ℕ → ℕ} {s : State} {memory : ℕ → ℕ} {h : History} → Tracks start s memory h → (task : ℕ) → doneOf s task ≡ count task h
-tracks-done t = tracks-invariant t .counts
+module _ {start : ℕ → ℕ} {s : State} {memory : ℕ → ℕ} {h : History} (t : Tracks start s memory h) where
+  -- Done(S) is how many entries are S's
+  pub tracks-done : (task : ℕ) → doneOf s task ≡ count task h
+  tracks-done = tracks-invariant t .counts
 
--- and no entry is of a task that is not below T
-pub tracks-tasks : {start : ℕ → ℕ} {s : State} {memory : ℕ → ℕ} {h : History} {e : Entry} {g : History} → Tracks start s memory h → At e g h → e .task < s .tasks
-tracks-tasks t = tracks-invariant t .tasks-low
+  -- no entry is of a task that is not below T
+  pub tracks-tasks : {e : Entry} {g : History} → At e g h → e .task < s .tasks
+  tracks-tasks = tracks-invariant t .tasks-low
+
+  -- the state is sound, so that no call on it is refused with 17
+  pub tracks-state : soundOf s ≡ true
+  tracks-state = sound-test s (tracks-invariant t .sound)
+
+-- THE WHOLE LIST: accepted accesses from an opening
+abbrev pub openedMoment : (ℕ → ℕ) → ℕ → ℕ → List ℕ → Moment
+openedMoment start tasks objects owners = record { state = openedState tasks objects owners; memory = start; history = [] }
+
+pub accesses-sound : (start : ℕ → ℕ) (tasks objects : ℕ) (owners : List ℕ) (accesses : List Access) → Opens tasks objects owners
+    → AllAccepted (openedState tasks objects owners) accesses → SoundHistory start (momentAfterAll (openedMoment start tasks objects owners) accesses .history)
+accesses-sound start tasks objects owners accesses o accepted =
+    tracks-sound (tracks-all (openedMoment start tasks objects owners) accesses (tracks-opened tasks objects owners o) accepted)
