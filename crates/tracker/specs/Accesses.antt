@@ -17,12 +17,12 @@ pub record Access : Type 0 where
   pub write : Bool
   pub value : ℕ
 
--- a write stores its value; a read gives the value that its object held
+-- a write stores its value, and a read gives the value that its object held
 abbrev pub actOf : ℕ → Bool → ℕ → ℕ → Act
 actOf object true value held = Act.write object value
 actOf object false value held = Act.read object held
 
--- the entry of an access, with the orderings that the table writes
+-- the entry of an access: its act, and the orderings that the table writes
 abbrev pub entryOf : State → ℕ → ℕ → Bool → ℕ → ℕ → Entry
 entryOf s task object write value held = record {
   task = task;

@@ -34,6 +34,7 @@ follows-any : {e : Entry} {h : History} (write : Bool) (object : ℕ) → Follow
 follows-any true object f = f
 follows-any false object f = follows-fewer (writes-touches object) f
 
+-- what is shown of each row; `l` is the object's new state
 pub record RowKeeps (e : Entry) (h : History) (s after : State) (object : ℕ) (write : Bool) (l : Locality) : Type 0 where
   pub follows : Follows e h (conflicting write object)
   pub moves : Moves e h s after
@@ -60,6 +61,7 @@ module _ (e : Entry) (h : History) (s after : State) (object : ℕ) (i : Invaria
     has = λ {d} {f} {k} closed inside a t. omega (arith, awaits (f .task) (i .tasks-low a) .reached closed inside, i .counts (f .task), at-lt (f .task) a refl);
   }
 
+  -- From what the object's state covers, what the row leaves, and that every ordering of the row is awaited.
   pub row-keeps : {l : Locality} {write : Bool} {row : Row} → View (e .task) (seenOf s (e .task)) l write row → Covered h s object l
       → Leaves s (e .task) (effectOf row s (e .task) l) after → ((p : Position) → List·Memᴰ p (orderingsOf row s l) → Awaits e h p)
       → (write ≡ false → writes object (e .act) ≡ false) → RowKeeps e h s after object write (localityAfter row s (e .task) l)

@@ -23,8 +23,8 @@ met-at : (d : ℕ → ℕ) (l : List Position) → Met d l → (p : Position) �
 met-at d [] all p m = absurd (List·Memᴰ·not-nil m)
 met-at d (q ∷ l) all p m = ⊎-elim (λ (e : p ≡ q). rw e (all .0)) (λ (n : List·Memᴰ p l). met-at d l (all .1) p n) (List·Memᴰ·cases-cons m)
 
--- An ordering that is left out has number 0, or is the task's own, and of its own the task has done more with the access
--- than the table knew of.
+-- An ordering that is left out has number 0, or is from the accessing task, which has done all that it had done before once
+-- the access is in. `before` is what each task had done when the access was made.
 pub written-implies-full : (d before : ℕ → ℕ) (task : ℕ) (full : List Position) → before task ≤ d task → Met before full
     → Met d (written task full) → Met d full
 written-implies-full d before task full own back met = met-from d full each

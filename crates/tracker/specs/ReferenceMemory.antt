@@ -16,6 +16,7 @@ abbrev pub valueGiven : (ℕ → ℕ) → ℕ → Bool → ℕ → ℕ
 valueGiven memory object true value = value
 valueGiven memory object false value = memory object
 
+-- the memory after the accesses, in turn
 unfoldable pub memoryAfterAll : (ℕ → ℕ) → List Access → ℕ → ℕ
 memoryAfterAll memory [] = memory
 memoryAfterAll memory (a ∷ rest) = memoryAfterAll (memoryAfter memory (a .object) (a .write) (a .value)) rest
@@ -31,7 +32,7 @@ unfoldable pub valuesIn : History → List ℕ
 valuesIn [] = []
 valuesIn (e ∷ g) = valuesIn g ++ (valueOf (e .act) ∷ [])
 
--- ONE ACCESS
+-- one access: its entry has the value that is given, and memories that agree before it agree after it
 pub value-given : (s : State) (memory : ℕ → ℕ) (task object : ℕ) (write : Bool) (value : ℕ)
     → valueOf (entryOf s task object write value (memory object) .act) ≡ valueGiven memory object write value
 value-given s memory task object true value = refl
@@ -44,7 +45,8 @@ unfolding reference
 reference-after start h s memory task object true value c same = rw same
 reference-after start h s memory task object false value c same = same
 
--- A LIST OF ACCESSES
+-- a list of accesses: the box's memory is the fold's, the fold is the history's reference memory, and the entries have the
+-- values that it gives
 pub memory-all : (m : Moment) (accesses : List Access) → momentAfterAll m accesses .memory ≡ memoryAfterAll (m .memory) accesses
 unfolding momentAfterAll memoryAfterAll
 memory-all m [] = refl

@@ -1,5 +1,6 @@
 -- EVERY LIST OF ACCEPTED ACCESSES, FROM AN OPENING, MAKES A SOUND HISTORY (document 01, "Transition table", "Whole runs").
--- `Tracks` says which state, memory and history accepted accesses lead to; the theorems below hold of all of them.
+-- `Tracks` says which state, memory and history accepted accesses lead to, one access at a time; the theorems hold of all of
+-- them. `accesses-sound` at the end says it of lists.
 use mathlib.Core.Bool.{Bool, true, false}
 use mathlib.Core.List.{List, [], _∷_}
 use mathlib.Core.Path.{_≡_, sym, _∙_}
@@ -37,6 +38,7 @@ tracks-all m [] t accepted = t
 tracks-all m (a ∷ rest) t accepted =
     tracks-all (momentAfter m a) rest (tracks-more (a .task) (a .object) (a .write) (a .value) t (accepted .0)) (accepted .1)
 
+-- the invariant holds at the opening, and one accepted access keeps it
 pub tracks-invariant : {start : ℕ → ℕ} {s : State} {memory : ℕ → ℕ} {h : History} → Tracks start s memory h → Invariant s h
 tracks-invariant (tracks-opened tasks objects owners o) = record {
   shaped = opened-shaped tasks objects owners;
@@ -60,6 +62,7 @@ read-holds : (object : ℕ) (write : Bool) (value held c v : ℕ) (memory : ℕ 
 read-holds object true value held c v memory same p = absurd (let z : _≡_ {A = ℕ} 0 1 = cc in omega arith)
 read-holds object false value held c v memory same p = cc
 
+-- the history is sound
 pub tracks-sound : {start : ℕ → ℕ} {s : State} {memory : ℕ → ℕ} {h : History} → Tracks start s memory h → SoundHistory start h
 tracks-sound {start} (tracks-opened tasks objects owners o) = sound-none start
 tracks-sound {start} (tracks-more {s = s} {memory = memory} {h = h} task object write value t a) =
@@ -80,7 +83,7 @@ module _ {start : ℕ → ℕ} {s : State} {memory : ℕ → ℕ} {h : History} 
   pub tracks-state : soundOf s ≡ true
   tracks-state = sound-test s (tracks-invariant t .sound)
 
--- THE WHOLE LIST: accepted accesses from an opening
+-- the box when it is opened
 abbrev pub openedMoment : (ℕ → ℕ) → ℕ → ℕ → List ℕ → Moment
 openedMoment start tasks objects owners = record { state = openedState tasks objects owners; memory = start; history = [] }
 
