@@ -15,4 +15,15 @@ pub mod Written
 pub mod After
 pub mod Kept
 pub mod Named
+pub mod Covers
+pub mod Implied
+pub mod Covered
+pub mod Moves
+pub mod Invariant
+pub mod Effects
+pub mod EachRow
+pub mod Accesses
+pub mod ReferenceMemory
+pub mod OneAccess
+pub mod Tracks
 pub mod Runs

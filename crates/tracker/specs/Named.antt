@@ -24,24 +24,24 @@ pub record Names (s : State) (task : ℕ) (p : Position) : Type 0 where
   pub reached : p .number ≤ doneOf s (p .task)
 
 module _ (s : State) (sound : Sound s) (l : Locality) (holder-low : holderOf l < s .tasks) where
-  -- of an ordering of the table with a number above 0
-  record Points (p : Position) : Type 0 where
+  -- of an ordering of the table, written or not
+  pub record Points (p : Position) : Type 0 where
     pub task-low : 0 < p .number → p .task < s .tasks
-    pub reached : 0 < p .number → p .number ≤ doneOf s (p .task)
+    pub reached : p .number ≤ doneOf s (p .task)
 
   last-points : Points (s .last)
-  last-points = record { task-low = sound .last .task-low; reached = λ h. sound .last .reached }
+  last-points = record { task-low = sound .last .task-low; reached = sound .last .reached }
 
   done-points : Points (doneAt s (holderOf l))
-  done-points = record { task-low = λ h. holder-low; reached = λ h. omega arith }
+  done-points = record { task-low = λ h. holder-low; reached = omega arith }
 
   took-points : Points (tookAt s (holderOf l))
-  took-points = record { task-low = λ h. holder-low; reached = λ h. sound .task (holderOf l) holder-low .took-low }
+  took-points = record { task-low = λ h. holder-low; reached = sound .task (holderOf l) holder-low .took-low }
 
   only : (p q : Position) → Points q → List·Memᴰ p (q ∷ []) → Points p
   only p q h m = rw (List·Memᴰ·eq-of-singleton m) h
 
-  row-points : (row : Row) (p : Position) → List·Memᴰ p (orderingsOf row s l) → Points p
+  pub row-points : (row : Row) (p : Position) → List·Memᴰ p (orderingsOf row s l) → Points p
   unfolding orderingsOf
   row-points One p m = absurd (List·Memᴰ·not-nil m)
   row-points Two p m = absurd (List·Memᴰ·not-nil m)
@@ -56,7 +56,7 @@ module _ (s : State) (sound : Sound s) (l : Locality) (holder-low : holderOf l <
   row-points Nine p m = only p (doneAt s (holderOf l)) done-points m
   row-points Ten p m =
       let b = every-in (s .done) (s .tasks) p m in
-      record { task-low = λ h. b .0; reached = λ h. omega (arith, b .1) }
+      record { task-low = λ h. b .0; reached = omega (arith, b .1) }
 
 -- each written ordering names an access made by another task below T
 pub written-names : (s : State) (task object : ℕ) (write : Bool) → Sound s → object < s .objects →
@@ -66,7 +66,7 @@ written-names s task object write sound low p m =
     let r = row-points s sound (localityOf s object) (sound .object object low .holder-low) (rowAt s task object write) p (b .0) in
     let some = b .1 .some in
     let h : 0 < p .number = omega (arith, some) in
-    record { task-low = r .task-low h; other = b .1 .other; some = h; reached = r .reached h }
+    record { task-low = r .task-low h; other = b .1 .other; some = h; reached = r .reached }
 
 -- row 10 orders after each other task that has made an access
 pub ten-names : (s : State) (task object : ℕ) (write : Bool) (other : ℕ) → rowAt s task object write ≡ Ten →

@@ -7,9 +7,9 @@ use Prim.Native.Nat.{ℕ, zero, suc, _+_, _≤_, _<_}
 use native.Mathlib.Nat.{eq-or-lt-of-le, le-of-suc-le-suc}
 use native.Mathlib.Numerals.{add-one}
 use native.Mathlib.Omega.{arith}
-use lib.ListN.{length, getD, set, replicate, length-set, length-replicate, getD-replicate}
+use lib.ListN.{length, getD, set, replicate, length-set, length-replicate}
 use lib.Seq.{getD-set-same, getD-set-other}
-use Rattle.tracker.specs.State.{owned, localityOf, nowhere, Shaped}
+use Rattle.tracker.specs.State.{owned, doneOf, localityOf, nowhere, Shaped}
 use Rattle.tracker.specs.Sound.{soundOf}
 use Rattle.tracker.specs.Facts.{Sound, TaskBounds, writer-bounds, sound-test}
 use Rattle.tracker.specs.declared.Locality.the-variants.{WriteExclusive}
@@ -32,6 +32,14 @@ openedState tasks objects owners = record {
   shares = 0;
   last = nowhere;
 }
+
+-- what the number table asks of an opening: 1, 2 and 4
+pub record Opens (tasks objects : ℕ) (owners : List ℕ) : Type 0 where
+  pub some-task : 1 ≤ tasks
+  pub tasks-fit : tasks ≤ 16
+  pub some-object : 1 ≤ objects
+  pub objects-fit : objects ≤ 256
+  pub owners-low : (object : ℕ) → object < objects → getD owners object 0 < tasks
 
 pub records-none : (owners : List ℕ) → ownedRecords owners 0 ≡ replicate 256 (owned 0)
 unfolding ownedRecords
@@ -66,6 +74,20 @@ opened-shaped tasks objects owners = record {
   took = refl;
 }
 
+pub opened-objects : (tasks objects : ℕ) (owners : List ℕ) → openedState tasks objects owners .objects ≡ objects
+unfolding openedState
+opened-objects tasks objects owners = refl
+
+zeros-at : (n i : ℕ) → getD {A = ℕ} (replicate n 0) i 0 ≡ 0
+zeros-at zero i = refl
+zeros-at (suc n) zero = refl
+zeros-at (suc n) (suc i) = zeros-at n i
+
+-- no access is made yet
+pub opened-done : (tasks objects : ℕ) (owners : List ℕ) (task : ℕ) → doneOf (openedState tasks objects owners) task ≡ 0
+unfolding openedState
+opened-done tasks objects owners task = zeros-at 16 task
+
 pub opened-owner : (tasks objects : ℕ) (owners : List ℕ) (o : ℕ) → objects ≤ 256 → o < objects →
     localityOf (openedState tasks objects owners) o ≡ WriteExclusive (getD owners o 0)
 unfolding openedState
@@ -82,12 +104,12 @@ opened-facts tasks objects owners some-task tasks-fit some-object objects-fit lo
   objects-fit = objects-fit;
   last = record { placed = λ h. refl; task-low = λ h. omega arith; reached = omega arith };
   counted = omega arith;
-  task = λ i h. zeros i (omega arith);
+  task = λ i h. zeros i;
   object = λ o h. rw (opened-owner tasks objects owners o objects-fit h) (writer-bounds tasks 0 (getD owners o 0) (low o h));
 }
   where
-    zeros : (i : ℕ) → i < 16 → TaskBounds (getD (replicate 16 0) i 0) (getD (replicate 16 0) i 0) (getD (replicate 16 0) i 0) 0
-    zeros i h = rw (getD-replicate {A = ℕ} 16 i 0 0 h) record { done-fits = omega arith; seen-low = omega arith; took-low = omega arith }
+    zeros : (i : ℕ) → TaskBounds (getD (replicate 16 0) i 0) (getD (replicate 16 0) i 0) (getD (replicate 16 0) i 0) 0
+    zeros i = rw (zeros-at 16 i) record { done-fits = omega arith; seen-low = omega arith; took-low = omega arith }
 
 pub opened-sound : (tasks objects : ℕ) (owners : List ℕ) → 1 ≤ tasks → tasks ≤ 16 → 1 ≤ objects → objects ≤ 256 →
     ((o : ℕ) → o < objects → getD owners o 0 < tasks) → soundOf (openedState tasks objects owners) ≡ true

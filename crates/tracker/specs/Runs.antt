@@ -1,5 +1,5 @@
 -- Runs on the bench that concern rows and orderings (document 01, "Runs on the bench", marked P), computed from the table.
-use mathlib.Core.Bool.{Bool, true, false}
+use mathlib.Core.Bool.{true, false}
 use mathlib.Core.List.{List, [], _∷_}
 use mathlib.Core.Path.{_≡_, refl}
 use Prim.Native.Nat.{ℕ}
@@ -9,18 +9,14 @@ use Rattle.tracker.specs.Row.{rowOf, rowAt, numberOf}
 use Rattle.tracker.specs.Orderings.{everyDone, orderingsOf, leftOut, written, writtenOf}
 use Rattle.tracker.specs.Next.{localityAfter, effectOf, nextOf}
 use Rattle.tracker.specs.Opened.{ownedRecords, openedState}
+use Rattle.tracker.specs.Accesses.{Access}
 use Rattle.tracker.specs.declared.State.{State}
 
-pub record Access : Type 0 where
-  pub task : ℕ
-  pub object : ℕ
-  pub write : Bool
-
 abbrev pub reads : ℕ → ℕ → Access
-reads task object = record { task = task; object = object; write = false }
+reads task object = record { task = task; object = object; write = false; value = 0 }
 
-abbrev pub writes : ℕ → ℕ → Access
-writes task object = record { task = task; object = object; write = true }
+abbrev pub writes : ℕ → ℕ → ℕ → Access
+writes task object value = record { task = task; object = object; write = true; value = value }
 
 -- an access's row, and the orderings that it writes
 pub record Tracked : Type 0 where
@@ -42,13 +38,13 @@ abbrev pub opened : ℕ → State
 opened tasks = openedState tasks 2 (0 ∷ 0 ∷ [])
 
 -- run A
-pub run-a : trackedAll (opened 2) (writes 0 0 ∷ reads 1 0 ∷ reads 0 0 ∷ writes 1 0 ∷ [])
+pub run-a : trackedAll (opened 2) (writes 0 0 7 ∷ reads 1 0 ∷ reads 0 0 ∷ writes 1 0 9 ∷ [])
     ≡ tracked 1 [] ∷ tracked 8 (position 0 1 ∷ []) ∷ tracked 5 (position 1 1 ∷ []) ∷ tracked 10 (position 0 2 ∷ []) ∷ []
 unfolding trackedAll openedState ownedRecords rowOf orderingsOf everyDone written leftOut nextOf localityAfter effectOf
 run-a = refl
 
 -- A's first three with T = 3, then task 2 reads object 0 twice
-pub run-fence : trackedAll (opened 3) (writes 0 0 ∷ reads 1 0 ∷ reads 0 0 ∷ reads 2 0 ∷ reads 2 0 ∷ [])
+pub run-fence : trackedAll (opened 3) (writes 0 0 7 ∷ reads 1 0 ∷ reads 0 0 ∷ reads 2 0 ∷ reads 2 0 ∷ [])
     ≡ tracked 1 [] ∷ tracked 8 (position 0 1 ∷ []) ∷ tracked 5 (position 1 1 ∷ []) ∷ tracked 6 (position 0 2 ∷ []) ∷ tracked 3 [] ∷ []
 unfolding trackedAll openedState ownedRecords rowOf orderingsOf everyDone written leftOut nextOf localityAfter effectOf
 run-fence = refl
