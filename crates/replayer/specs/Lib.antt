@@ -1,0 +1,16 @@
+pub mod All
+pub mod Memory
+pub mod Met
+pub mod Next
+pub mod NextLaws
+pub mod NextTurn
+pub mod Number
+pub mod OpenOf
+pub mod OpenTurn
+pub mod ReadyOf
+pub mod Run
+pub mod Sound
+pub mod StepOf
+pub mod StepTurn
+pub mod Word
+pub mod WordLaws
