@@ -9,11 +9,13 @@ returns c = rw (lt-leb (c .before .before .args .x .done) (c .before .before .ar
 
 returns-2 : tie.Need-returns-2
 unfolding taskSound
-returns-2 c = rw (le-leb (c .before .before .before .before .args .x .done) (c .before .before .before .before .args .x .count) (c .before .before .if1 .left), lt-leb (c .before .before .before .before .args .x .place) (c .before .before .before .before .args .x .end) (c .if2 .taken))
+returns-2 c = let x = c .before .before .before .before .args .x in
+    rw (le-leb (x .done) (x .count) (c .before .before .if1 .left), lt-leb (x .place) (x .end) (c .if2 .taken))
 
 returns-3 : tie.Need-returns-3
 unfolding taskSound
-returns-3 c = rw (le-leb (c .before .before .before .before .before .args .x .done) (c .before .before .before .before .before .args .x .count) (c .before .before .before .if1 .left), le-leb (c .before .before .before .before .before .args .x .place) (c .before .before .before .before .before .args .x .end) (c .before .if2 .left))
+returns-3 c = let x = c .before .before .before .before .before .args .x in
+    rw (le-leb (x .done) (x .count) (c .before .before .before .if1 .left), le-leb (x .place) (x .end) (c .before .if2 .left))
 
 pub task-sound-spec : {M : Type 1} → statement M
 task-sound-spec = tie.close (tie.spec returns returns-2 returns-3)

@@ -43,13 +43,24 @@ loop-less : tie.Need-loop-less Inv-loop μ-loop
 loop-less c = search needs
 
 loop-again : tie.Need-loop-again Inv-loop μ-loop
-loop-again c = let a = c .before .before .before .before .before .args in let l = c .before .before .loop in (omega arith, omega (arith, l .inv .1), simp length-set (l .inv .2), rw (c .get32 .ensures) (sym (values-turn (length (now (a .memory))) (l .i) (l .place) (now (a .bytes)) (l .memory) (c .before .loop-test .taken) (l .inv .2)) ∙ l .inv .3))
+loop-again c =
+    let n = length (now (c .before .before .before .before .before .args .memory)) in
+    let b = now (c .before .before .before .before .before .args .bytes) in
+    let l = c .before .before .loop in (
+      omega arith,
+      omega (arith, l .inv .1),
+      simp length-set (l .inv .2),
+      rw (c .get32 .ensures) (sym (values-turn n (l .i) (l .place) b (l .memory) (c .before .loop-test .taken) (l .inv .2)) ∙ l .inv .3),
+    )
 
 same-length : tie.Need-same-length Inv-loop μ-loop
 same-length c = c .before .loop .inv .2
 
 returns : tie.Need-returns Inv-loop μ-loop
-returns c = let a = c .before .before .before .before .args in let l = c .before .loop in sym (values-done (length (now (a .memory))) (l .i) (drop (l .place) (now (a .bytes))) (l .memory) (c .loop-test .left) (l .inv .2)) ∙ l .inv .3
+returns c =
+    let a = c .before .before .before .before .args in
+    let l = c .before .loop in
+    sym (values-done (length (now (a .memory))) (l .i) (drop (l .place) (now (a .bytes))) (l .memory) (c .loop-test .left) (l .inv .2)) ∙ l .inv .3
 
 pub set-values-spec : {M : Type 1} → statement M
 set-values-spec =
