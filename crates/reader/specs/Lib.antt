@@ -1,4 +1,5 @@
 pub mod Answers
+pub mod Bodies
 pub mod Body
 pub mod BodyStrict
 pub mod Bytes

@@ -1,4 +1,5 @@
 pub mod All
+pub mod Left
 pub mod Memory
 pub mod Met
 pub mod Moved
