@@ -61,7 +61,7 @@ left-first m x b e es h = go (part (x .place) (x .end) b) refl
     go (c ∷ l) q =
         let k : 0 < length (part (x .place) (x .end) b) = rw q (omega arith) in
         let w = first-of m (x .place) e es (part (x .place) (x .end) b) (entryOf m (stop inBody (x .place)) (x .place) (part (x .place) (x .end) b))
-            (sym (body-step m (x .place) (part (x .place) (x .end) b) k) ∙ h) in
+        (sym (body-step m (x .place) (part (x .place) (x .end) b) k) ∙ h) in
         record { entry = w .0; rest = rw (part-drop (entryLength e) (x .place) (x .end) b) at (w .1) }
 
 module _ (r : Run) (b : List ℕ) (t : ℕ) where
