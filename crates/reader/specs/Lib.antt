@@ -1,12 +1,15 @@
 pub mod Answers
+pub mod Bodies
 pub mod Body
 pub mod BodyStrict
 pub mod Bytes
 pub mod CallTurn
 pub mod Calls
 pub mod Entry
+pub mod EntryCase
 pub mod HeadTurn
 pub mod Joined
+pub mod Laid
 pub mod Layout
 pub mod Part
 pub mod Parse

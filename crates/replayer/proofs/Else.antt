@@ -1,0 +1,44 @@
+-- What a `let .. else` leaves in its else branch, by the tags that are left.
+use mathlib.Core.Path.{_≡_, refl}
+use mathlib.Core.List.{List, [], _∷_}
+use Prim.Native.Nat.{ℕ}
+use types.Run.{OneOf, miss}
+use denote.Enum.Declared.{tagOf}
+use mathlib.Core.Bool.{true, false}
+use Rattle.codec.proofs.Record.{the-type as record-type}
+use Rattle.codec.specs.declared.Position.{Position}
+use Rattle.codec.specs.declared.Record.{Record}
+use Rattle.codec.specs.declared.Record.the-variants.{Ordering}
+use Rattle.reader.proofs.entry.Found.{the-type as found-type}
+use Rattle.reader.specs.declared.entry.Found.{Found}
+use Rattle.reader.specs.declared.entry.Found.the-variants.{Access as FoundAccess, Refused as FoundRefused}
+use Rattle.replayer.proofs.next.Next.{the-type as next-type}
+use Rattle.replayer.specs.declared.Run.{Run}
+use Rattle.replayer.specs.declared.next.Next.{Next}
+use Rattle.replayer.specs.declared.next.Next.the-variants.{Open, Held, Refused}
+use Rattle.replayer.specs.Next.{refusalOf, isOpen}
+use Rattle.replayer.specs.StepOf.{refusedStep, haltOf, onNext}
+
+pub not-found : (f : Found) → OneOf (1 ∷ []) (tagOf found-type f) → f ≡ FoundRefused (refusalOf f)
+not-found (FoundAccess o a n) h = absurd (miss (1 ∷ []) 0 tt h)
+not-found (FoundRefused c) h = refl
+
+pub not-ordering : (r : Record) (p : Position) → OneOf (0 ∷ 1 ∷ 3 ∷ 4 ∷ []) (tagOf record-type r) → r ≡ Ordering p → ⊥
+not-ordering r p h e = miss (0 ∷ 1 ∷ 3 ∷ 4 ∷ []) 2 tt (rw e at h)
+
+pub not-open : (run : Run) (memory : List ℕ) (task : ℕ) (n : Next) → OneOf (1 ∷ 2 ∷ []) (tagOf next-type n)
+    → onNext run memory task n ≡ record { answer = refusedStep run (haltOf n .number) (haltOf n .offset); memory = memory }
+unfolding onNext
+not-open run memory task (Open o k) h = absurd (miss (1 ∷ 2 ∷ []) 0 tt h)
+not-open run memory task Held h = refl
+not-open run memory task (Refused c) h = refl
+
+pub open-bit : (n : Next) → OneOf (0 ∷ []) (tagOf next-type n) → isOpen n ≡ true
+open-bit (Open o k) h = refl
+open-bit Held h = absurd (miss (0 ∷ []) 1 tt h)
+open-bit (Refused c) h = absurd (miss (0 ∷ []) 2 tt h)
+
+pub closed-bit : (n : Next) → OneOf (1 ∷ 2 ∷ []) (tagOf next-type n) → isOpen n ≡ false
+closed-bit (Open o k) h = absurd (miss (1 ∷ 2 ∷ []) 0 tt h)
+closed-bit Held h = refl
+closed-bit (Refused c) h = refl

@@ -1,0 +1,80 @@
+-- When a run is sound (document 01, "Number table": "Unsound run: T, N or a later limit out of range, done above its section's
+-- count, place beyond end, end beyond the bytes"), looking only at tasks below T.
+use mathlib.Core.Path.{_≡_}
+use mathlib.Core.Bool.{Bool, true, _&&_}
+use Prim.Native.Nat.{ℕ, _≤_, _<_}
+use lib.Dec.{leb}
+use borrow.Author.Tests.{leb-true, le-leb}
+use Rattle.codec.specs.Decide.{both-pass}
+use Rattle.replayer.specs.declared.TaskRun.{TaskRun}
+use Rattle.replayer.specs.declared.Run.{Run}
+use Rattle.replayer.specs.All.{allFrom, all-facts, all-test}
+use Rattle.replayer.specs.Run.{taskAt}
+
+-- 1 to high
+unfoldable pub within : ℕ → ℕ → Bool
+within high n = leb 1 n && leb n high
+
+-- of a task, over so many bytes
+unfoldable pub taskSound : ℕ → TaskRun → Bool
+taskSound size x = leb (x .done) (x .count) && (leb (x .place) (x .end) && leb (x .end) size)
+
+abbrev pub taskSoundAt : Run → ℕ → ℕ → Bool
+taskSoundAt r size t = taskSound size (taskAt (r .runs) t)
+
+unfoldable pub soundOf : Run → ℕ → Bool
+soundOf r size = within 16 (r .tasks) && (within 256 (r .objects) && allFrom (taskSoundAt r size) 0 (r .tasks))
+
+-- soundness as facts
+pub record SoundTask (size : ℕ) (x : TaskRun) : Type 0 where
+  pub done : x .done ≤ x .count
+  pub place : x .place ≤ x .end
+  pub end : x .end ≤ size
+
+pub record Sound (r : Run) (size : ℕ) : Type 0 where
+  pub some-tasks : 1 ≤ r .tasks
+  pub few-tasks : r .tasks ≤ 16
+  pub some-objects : 1 ≤ r .objects
+  pub few-objects : r .objects ≤ 256
+  pub task : (t : ℕ) → t < r .tasks → SoundTask size (taskAt (r .runs) t)
+
+pub within-facts : (high n : ℕ) → within high n ≡ true → (1 ≤ n) × (n ≤ high)
+unfolding within
+within-facts high n p = let q = both-pass (leb 1 n) _ p in (leb-true 1 n (q .0), leb-true n high (q .1))
+
+within-test : (high n : ℕ) → 1 ≤ n → n ≤ high → within high n ≡ true
+unfolding within
+within-test high n p q = rw (le-leb 1 n p, le-leb n high q)
+
+task-facts : (size : ℕ) (x : TaskRun) → taskSound size x ≡ true → SoundTask size x
+unfolding taskSound
+task-facts size x p =
+    let q = both-pass (leb (x .done) (x .count)) _ p in
+    let s = both-pass (leb (x .place) (x .end)) _ (q .1) in
+    record { done = leb-true _ _ (q .0); place = leb-true _ _ (s .0); end = leb-true _ _ (s .1) }
+
+task-test : (size : ℕ) (x : TaskRun) → SoundTask size x → taskSound size x ≡ true
+unfolding taskSound
+task-test size x w = rw (le-leb (x .done) (x .count) (w .done), le-leb (x .place) (x .end) (w .place), le-leb (x .end) size (w .end))
+
+pub sound-facts : (r : Run) (size : ℕ) → soundOf r size ≡ true → Sound r size
+unfolding soundOf
+sound-facts r size p =
+    let q = both-pass (within 16 (r .tasks)) _ p in
+    let s = both-pass (within 256 (r .objects)) _ (q .1) in
+    let t = within-facts 16 (r .tasks) (q .0) in
+    let n = within-facts 256 (r .objects) (s .0) in
+    record {
+      some-tasks = t .0;
+      few-tasks = t .1;
+      some-objects = n .0;
+      few-objects = n .1;
+      task = λ k h. task-facts size (taskAt (r .runs) k) (all-facts (taskSoundAt r size) (r .tasks) (s .1) k h);
+    }
+
+pub sound-test : (r : Run) (size : ℕ) → Sound r size → soundOf r size ≡ true
+unfolding soundOf
+sound-test r size w = rw (
+  within-test 16 (r .tasks) (w .some-tasks) (w .few-tasks),
+  within-test 256 (r .objects) (w .some-objects) (w .few-objects),
+) (all-test (taskSoundAt r size) (r .tasks) (λ k h. task-test size (taskAt (r .runs) k) (w .task k h)))

@@ -1,0 +1,88 @@
+// What stands next for a task: its next access with the orderings before it, read by the reader and held to what is done.
+ghost use mathlib.Core.Path.{_≡_};
+ghost use Prim.Native.Nat.{_≤_, _<_};
+ghost use lib.ListN.{length};
+ghost use Rattle.codec.specs.Number.{inBody};
+ghost use Rattle.reader.specs.Part.{part};
+ghost use Rattle.reader.specs.Reading.{stop};
+ghost use Rattle.reader.specs.Entry.{entryOf};
+ghost use Rattle.replayer.specs.Run.{taskAt};
+ghost use Rattle.replayer.specs.Next.{refusalOf, judged, nextOf, isOpen};
+use crate::Run;
+use crate::TaskRun;
+use codec::Op;
+use codec::Record;
+use codec::number::BODY;
+use codec::read::record;
+use reader::Checked;
+use reader::Limits;
+use reader::entry::Found;
+use reader::entry::entry_at;
+use reader::entry::other_number;
+
+// An access that may be done now and the place behind it; one that an ordering holds; or records that do not read.
+pub enum Next {
+    Open { op: Op, next: usize },
+    Held,
+    Refused(Checked),
+}
+
+// The reader's number and offset.
+fn refusal(f: Found) -> Checked
+    ensures { λ r. ⌜ r ≡ refusalOf f ⌝ }
+{
+    match f {
+        Found::Refused(c) => c,
+        Found::Access {
+            op: _,
+            at: _,
+            next: _,
+        } => Checked {
+            number: 0,
+            offset: 0,
+        },
+    }
+}
+
+// The group from a place up to a body's end: all of it is read before an ordering is judged.
+fn next_at(bytes: &[u8], from: usize, end: usize, limits: Limits, runs: [TaskRun; 16]) -> Next
+    requires { ⌜ (limits .tasks ≤ 16) × (end ≤ length (now bytes)) ⌝ }
+    ensures { λ r. ⌜ r ≡ judged runs from (entryOf limits (stop inBody from) from (part from end (now (bytes .entry)))) ⌝ }
+{
+    let f = entry_at(bytes, from, end, limits);
+    let Found::Access { op, at, next } = f else {
+        return Next::Refused(refusal(f));
+    };
+    let mut place = from;
+    while place < at {
+        let r = record(&bytes[place..end], BODY);
+        let Record::Ordering(p) = r else {
+            return Next::Refused(Checked {
+                number: other_number(r),
+                offset: place,
+            });
+        };
+        let source = p.task as usize;
+        let s = runs[source];
+        if s.done < p.number as usize {
+            return Next::Held;
+        }
+        place += 8;
+    }
+    Next::Open { op, next }
+}
+
+// The next group of a task, with T and N of the run.
+pub fn next_of(run: Run, bytes: &[u8], task: usize) -> Next
+    requires { ⌜ (run .tasks ≤ 16) × (task < 16) × (taskAt (run .runs) task .end ≤ length (now bytes)) ⌝ }
+    ensures { λ r. ⌜ r ≡ nextOf run (now (bytes .entry)) task ⌝ }
+{
+    let x = run.runs[task];
+    let limits = Limits {
+        tasks: run.tasks,
+        objects: run.objects,
+        own: task,
+    };
+    let runs = run.runs;
+    next_at(bytes, x.place, x.end, limits, runs)
+}

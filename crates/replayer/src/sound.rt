@@ -1,0 +1,48 @@
+// The soundness test of a run: one pass over the tasks below T.
+ghost use mathlib.Core.Path.{_≡_};
+ghost use Rattle.replayer.specs.Sound.{within, taskSound, soundOf};
+use crate::Run;
+use crate::TaskRun;
+
+// `n` is 1 to `high`.
+fn in_range(high: usize, n: usize) -> bool
+    ensures { λ r. ⌜ r ≡ within high n ⌝ }
+{
+    if n < 1 {
+        return false;
+    }
+    n <= high
+}
+
+// Done at most the section's count, the place at most the end, the end within the bytes.
+fn task_sound(x: TaskRun, size: usize) -> bool
+    ensures { λ r. ⌜ r ≡ taskSound size x ⌝ }
+{
+    if x.count < x.done {
+        return false;
+    }
+    if x.end < x.place {
+        return false;
+    }
+    x.end <= size
+}
+
+// Document 01: a sound run over so many bytes; number 17 is for any other.
+pub fn sound(run: Run, size: usize) -> bool
+    ensures { λ r. ⌜ r ≡ soundOf run size ⌝ }
+{
+    let tasks = run.tasks;
+    if !in_range(16, tasks) {
+        return false;
+    }
+    if !in_range(256, run.objects) {
+        return false;
+    }
+    for t in 0..tasks {
+        let x = run.runs[t];
+        if !task_sound(x, size) {
+            return false;
+        }
+    }
+    true
+}

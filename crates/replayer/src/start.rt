@@ -1,0 +1,73 @@
+// What opening sets: the memory to the starting values, each task to the start of its body.
+ghost use mathlib.Core.Path.{_≡_};
+ghost use Prim.Native.Nat.{_≤_};
+ghost use lib.ListN.{length, drop};
+ghost use Rattle.codec.specs.Kind.{headLength};
+ghost use Rattle.reader.specs.Parse.{valuesOf};
+ghost use Rattle.replayer.specs.OpenOf.{startsOf, refusedOpen};
+ghost use Rattle.replayer.specs.Run.{blankTasks};
+use crate::Opened;
+use crate::Run;
+use crate::TaskRun;
+use codec::field::get32;
+use reader::Span;
+
+// A value for each entry, from the head: it stands behind the owner's byte.
+pub fn set_values(bytes: &[u8], memory: &mut [u32])
+    requires { ⌜ headLength (length (now memory)) ≤ length (now bytes) ⌝ }
+    ensures { λ r. ⌜ now (memory .exit) ≡ valuesOf (length (now (memory .entry))) (drop 8 (now (bytes .entry))) ⌝ }
+{
+    let mut place: usize = 8;
+    for i in 0..memory.len() {
+        memory[i] = get32(bytes, place + 1);
+        place += 5;
+    }
+}
+
+fn blank_tasks() -> [TaskRun; 16]
+    ensures { λ r. ⌜ r ≡ blankTasks ⌝ }
+{
+    let blank = TaskRun {
+        place: 0,
+        end: 0,
+        done: 0,
+        count: 0,
+    };
+    [blank; 16]
+}
+
+// The first `tasks` tasks at the start of their bodies.
+pub fn starts(spans: [Span; 16], tasks: usize) -> [TaskRun; 16]
+    requires { ⌜ tasks ≤ 16 ⌝ }
+    ensures { λ r. ⌜ r ≡ startsOf spans tasks ⌝ }
+{
+    let mut runs = blank_tasks();
+    for t in 0..tasks {
+        let s = spans[t];
+        let x = TaskRun {
+            place: s.start,
+            end: s.stop,
+            done: 0,
+            count: s.accesses,
+        };
+        runs[t] = x;
+    }
+    runs
+}
+
+// A refused opening: the blank run.
+pub fn refused(number: u32, offset: usize) -> Opened
+    ensures { λ r. ⌜ r ≡ refusedOpen number offset ⌝ }
+{
+    let runs = blank_tasks();
+    let run = Run {
+        tasks: 0,
+        objects: 0,
+        runs,
+    };
+    Opened {
+        number,
+        offset,
+        run,
+    }
+}
