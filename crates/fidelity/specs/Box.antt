@@ -1,0 +1,106 @@
+-- The first list of a whole run (document 01, "Whole runs"): calls of `access` from an accepted opening. Which accesses are recorded,
+-- what the reference memory (document 01: the paper box) says of them, and the recording that they end in.
+use mathlib.Core.Bool.{Bool, true, false, cond}
+use mathlib.Core.List.{List, [], _∷_, _++_, map}
+use Prim.Native.Nat.{ℕ, _<_}
+use lib.Dec.{eqb}
+use lib.ListN.{getD, set, take}
+use Rattle.reader.specs.Range.{AllUnder}
+use Rattle.history.specs.Entry.{Act, Entry}
+use Rattle.history.specs.History.{History}
+use Rattle.tracker.specs.Orderings.{writtenOf}
+use Rattle.recorder.specs.AccessOf.{isWrite}
+use Rattle.recorder.specs.OpenOf.{OpenOutcome, openOf}
+use Rattle.recorder.specs.WholeRun.{Call, Box, outcome, called, calledAll, packed}
+
+-- the arguments of an opening; the starting values fit their type
+pub record Opening : Type 0 where
+  pub tasks : ℕ
+  pub objects : ℕ
+  pub owners : List ℕ
+  pub starts : List ℕ
+  pub memory : List ℕ
+  pub out : List ℕ
+  pub fits : AllUnder 4294967296 starts
+
+abbrev pub openedBy : Opening → OpenOutcome
+openedBy o = openOf (o .tasks) (o .objects) (o .owners) (o .starts) (o .memory) (o .out)
+
+-- a call of `access`, any numbers; its value fits its type
+pub record Asked : Type 0 where
+  pub call : Call
+  pub fits : call .value < 4294967296
+
+abbrev pub callsOf : List Asked → List Call
+callsOf asked = map (λ a. a .call) asked
+
+-- the box that an opening leaves, and the box after the calls
+abbrev pub firstBox : Opening → Box
+firstBox o = record { state = openedBy o .answer .state; memory = openedBy o .memory; logs = λ t. [] }
+
+abbrev pub lastBox : Opening → List Asked → Box
+lastBox o asked = calledAll (firstBox o) (callsOf asked)
+
+-- the number table accepts the call
+abbrev pub accepts : Box → Call → Bool
+accepts b c = eqb (outcome b c .answer .number) 0
+
+-- the entry of an accepted call: its sort, object and the value that it answered, with the orderings of its row
+abbrev pub actOf : Bool → ℕ → ℕ → Act
+actOf true object value = Act.write object value
+actOf false object value = Act.read object value
+
+abbrev pub entryOf : Box → Call → Entry
+entryOf b c = record {
+  task = c .task;
+  act = actOf (isWrite (c .sort)) (c .object) (outcome b c .answer .value);
+  orderings = writtenOf (b .state) (c .task) (c .object) (isWrite (c .sort));
+}
+
+-- the accesses recorded are those accepted; newest first
+unfoldable pub recordedFrom : History → Box → List Call → History
+recordedFrom h b [] = h
+recordedFrom h b (c ∷ calls) = recordedFrom (cond (accepts b c) (entryOf b c ∷ h) h) (called b c) calls
+
+abbrev pub recorded : Opening → List Asked → History
+recorded o asked = recordedFrom [] (firstBox o) (callsOf asked)
+
+-- what the reference memory is fed of a call: its arguments, and whether it is accepted
+pub record Fed : Type 0 where
+  pub object : ℕ
+  pub write : Bool
+  pub value : ℕ
+  pub accepted : Bool
+
+unfoldable pub fedFrom : Box → List Call → List Fed
+fedFrom b [] = []
+fedFrom b (c ∷ calls) = record { object = c .object; write = isWrite (c .sort); value = c .value; accepted = accepts b c } ∷ fedFrom (called b c) calls
+
+abbrev pub fed : Opening → List Asked → List Fed
+fed o asked = fedFrom (firstBox o) (callsOf asked)
+
+-- an accepted write sets its object's value and gives it, an accepted read gives its object's value; any other call gives 0 and
+-- changes nothing
+abbrev pub given : List ℕ → Fed → ℕ
+given memory f = cond (f .accepted) (cond (f .write) (f .value) (getD memory (f .object) 0)) 0
+
+abbrev pub kept : List ℕ → Fed → List ℕ
+kept memory f = cond (f .accepted) (cond (f .write) (set memory (f .object) (f .value)) memory) memory
+
+unfoldable pub referenceMemory : List ℕ → List Fed → List ℕ
+referenceMemory memory [] = memory
+referenceMemory memory (f ∷ fs) = referenceMemory (kept memory f) fs
+
+unfoldable pub referenceValues : List ℕ → List Fed → List ℕ
+referenceValues memory [] = []
+referenceValues memory (f ∷ fs) = given memory f ∷ referenceValues (kept memory f) fs
+
+-- the values that the calls answer
+unfoldable pub answersFrom : Box → List Call → List ℕ
+answersFrom b [] = []
+answersFrom b (c ∷ calls) = outcome b c .answer .value ∷ answersFrom (called b c) calls
+
+-- the recording: the head that opening wrote, then for each task what the section writer wrote from the last state and the task's log
+abbrev pub recordingOf : Opening → List Asked → (ℕ → List ℕ) → List ℕ
+recordingOf o asked outs =
+    take (openedBy o .answer .written) (openedBy o .out) ++ packed (lastBox o asked .state) (lastBox o asked .logs) outs 0 (o .tasks)

@@ -1,0 +1,5 @@
+pub mod Box
+pub mod Bench
+pub mod Statement
+pub mod Filed
+pub mod Matches

@@ -1,0 +1,73 @@
+-- DEMAND 3, the claim about whole runs (document 01, "Whole runs"), as one statement over two lists: any calls of `access` from an
+-- accepted opening, and any steps from an accepted replay opening of their recording. No proof is in this file.
+use mathlib.Core.Bool.{true}
+use mathlib.Core.List.{List}
+use mathlib.Core.Logic.{_↔_}
+use mathlib.Core.Path.{_≡_}
+use Prim.Native.Nat.{ℕ, suc, _≤_, _<_}
+use lib.ListN.{length}
+use Rattle.codec.specs.Kind.{readKind, writeKind}
+use Rattle.reader.specs.Calls.{checkedOf}
+use Rattle.reader.specs.Parse.{parse}
+use Rattle.reader.specs.Reading.{stop}
+use Rattle.history.specs.Entry.{Act, read, write, acquire, Entry}
+use Rattle.history.specs.History.{History}
+use Rattle.history.specs.Access.{Access}
+use Rattle.history.specs.Ready.{Ready}
+use Rattle.history.specs.Replay.{recordedOrder}
+use Rattle.recorder.specs.SectionOf.{sectionOf}
+use Rattle.replayer.specs.declared.Stepped.{Stepped}
+use Rattle.replayer.specs.OpenOf.{openOf}
+use Rattle.replayer.specs.ReadyOf.{readyOf}
+use Rattle.replayer.specs.Word.{hasBit}
+use Rattle.fidelity.specs.Box.{Opening, openedBy, Asked, callsOf, firstBox, lastBox, recorded, fed, referenceMemory, referenceValues, answersFrom, recordingOf}
+use Rattle.fidelity.specs.Bench.{Bench, benchOf, answerOf, steppedAll, takes, tally, tallyOf, AllTaken}
+
+-- what is assumed, and nothing of the calls or the steps: the opening, the sections and the replay opening answered 0
+pub record Accepted (o : Opening) (asked : List Asked) (outs : ℕ → List ℕ) (memory : List ℕ) : Type 0 where
+  pub opened : openedBy o .answer .number ≡ 0
+  pub packed : (t : ℕ) → t < o .tasks → sectionOf (lastBox o asked .state) t (lastBox o asked .logs t) (outs t) .answer .number ≡ 0
+  pub replayed : openOf (recordingOf o asked outs) memory .answer .number ≡ 0
+
+-- a step's kind, object and value are those of an act
+abbrev pub Shows : Stepped → Act → Type 0
+Shows a (read object value) = (a .kind ≡ readKind) × (a .object ≡ object) × (a .value ≡ value)
+Shows a (write object value) = (a .kind ≡ writeKind) × (a .object ≡ object) × (a .value ≡ value)
+Shows a (acquire number) = ⊥
+
+module _ (o : Opening) (asked : List Asked) (outs : ℕ → List ℕ) (memory : List ℕ) where
+  -- the recorded accesses, newest first, and their recording
+  abbrev pub history : History
+  history = recorded o asked
+
+  abbrev pub bytes : List ℕ
+  bytes = recordingOf o asked outs
+
+  -- the bench after a list of steps, and how many accesses each task has then done: as many as steps naming it were taken
+  abbrev pub after : List ℕ → Bench
+  after steps = steppedAll bytes (benchOf bytes memory) steps
+
+  abbrev pub done : List ℕ → ℕ → ℕ
+  done steps t = tallyOf t bytes (benchOf bytes memory) steps
+
+  pub record Faithful : Type 0 where
+    -- 1. Each access answers the reference memory's value, and the recorder's memory ends equal to it.
+    pub answers-reference : answersFrom (firstBox o) (callsOf asked) ≡ referenceValues (o .starts) (fed o asked)
+    pub memory-reference : lastBox o asked .memory ≡ referenceMemory (o .starts) (fed o asked)
+    -- 2. The reader takes the recording.
+    pub reader-takes : checkedOf (parse bytes) ≡ stop 0 0
+    -- 3. A step is taken exactly when its task is ready: it has accesses left, and every ordering before its next one is met.
+    pub taken-when-ready : (steps : List ℕ) (t : ℕ) → (takes bytes (after steps) t ≡ true) ↔ Ready history (done steps) t
+    -- 4. A task's k-th taken step answers access number k and the sort, object and value of its accepted access k.
+    pub answers-recorded : (steps : List ℕ) (t : ℕ) → takes bytes (after steps) t ≡ true
+        → (e : Entry) × Access history t (suc (done steps t)) e
+        × (answerOf bytes (after steps) t .access ≡ suc (done steps t)) × Shows (answerOf bytes (after steps) t) (e .act)
+    -- 5. At first and after each step the ready word has exactly the ready tasks.
+    pub word-sound : (steps : List ℕ) → readyOf (after steps .run) bytes .number ≡ 0
+    pub word-ready : (steps : List ℕ) (t : ℕ) → (hasBit (readyOf (after steps .run) bytes .word) t ≡ true) ↔ Ready history (done steps) t
+    -- 6. No more steps are taken than accesses were accepted; the word is 0 exactly when as many; memory is then the box's.
+    pub never-more : (steps : List ℕ) → tally bytes (benchOf bytes memory) steps ≤ length history
+    pub stops-at-end : (steps : List ℕ) → (readyOf (after steps .run) bytes .word ≡ 0) ↔ (tally bytes (benchOf bytes memory) steps ≡ length history)
+    pub end-memory : (steps : List ℕ) → tally bytes (benchOf bytes memory) steps ≡ length history → after steps .memory ≡ lastBox o asked .memory
+    -- 7. The recorded order, the accepted accesses' tasks in call order, is taken whole.
+    pub recorded-order : AllTaken bytes (benchOf bytes memory) (recordedOrder history)
