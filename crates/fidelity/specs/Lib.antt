@@ -3,3 +3,9 @@ pub mod Bench
 pub mod Statement
 pub mod Filed
 pub mod Matches
+pub mod LeftOver
+pub mod Sim
+pub mod SimStep
+pub mod SimRun
+pub mod SimStart
+pub mod Replayed
