@@ -2,7 +2,7 @@
 ghost use mathlib.Core.Path.{_≡_};
 ghost use Prim.Native.Nat.{_+_, _<_};
 ghost use lib.ListN.{length};
-ghost use Rattle.reader.specs.EntryCase.{objectOf};
+ghost use Rattle.reader.specs.Object.{objectOf};
 ghost use Rattle.replayer.specs.Run.{doneOf, movedOf};
 ghost use Rattle.replayer.specs.Memory.{kindOf, valueOf, performed};
 ghost use Rattle.replayer.specs.StepOf.{refusedStep, barredOf, haltOf};

@@ -7,7 +7,7 @@ ghost use Rattle.reader.specs.Part.{part};
 ghost use Rattle.reader.specs.Reading.{stop};
 ghost use Rattle.reader.specs.Entry.{entryOf};
 ghost use Rattle.replayer.specs.Run.{taskAt};
-ghost use Rattle.replayer.specs.Next.{refusalOf, judged, nextOf, isOpen};
+ghost use Rattle.replayer.specs.Next.{refusalOf, judged, nextOf};
 use crate::Run;
 use crate::TaskRun;
 use codec::Op;
@@ -27,7 +27,7 @@ pub enum Next {
     Refused(Checked),
 }
 
-// The reader's number and offset.
+// The reader's number and offset, 0 and 0 where an access was found.
 fn refusal(f: Found) -> Checked
     ensures { λ r. ⌜ r ≡ refusalOf f ⌝ }
 {
