@@ -73,7 +73,7 @@ fn next_at(bytes: &[u8], from: usize, end: usize, limits: Limits, runs: [TaskRun
 }
 
 // The next group of a task, with T and N of the run.
-pub fn next_of(run: Run, bytes: &[u8], task: usize) -> Next
+pub(crate) fn next_of(run: Run, bytes: &[u8], task: usize) -> Next
     requires { ⌜ (run .tasks ≤ 16) × (task < 16) × (taskAt (run .runs) task .end ≤ length (now bytes)) ⌝ }
     ensures { λ r. ⌜ r ≡ nextOf run (now (bytes .entry)) task ⌝ }
 {
