@@ -11,6 +11,7 @@ pub mod HeadTurn
 pub mod Joined
 pub mod Laid
 pub mod Layout
+pub mod Object
 pub mod Part
 pub mod Parse
 pub mod Positive

@@ -10,7 +10,8 @@ use Rattle.codec.specs.Decide.{passes, fails, split}
 use Rattle.codec.specs.Number.{inBody}
 use Rattle.reader.specs.declared.Checked.{Checked}
 use Rattle.reader.specs.Bytes.{entryLength, entry-long}
-use Rattle.reader.specs.EntryCase.{objectOf, Entered, entry-entered}
+use Rattle.reader.specs.EntryCase.{Entered, entry-entered}
+use Rattle.reader.specs.Object.{objectOf}
 use Rattle.reader.specs.Part.{part, part-length}
 use Rattle.reader.specs.Positive.{entry-positive}
 use Rattle.reader.specs.Reading.{Reading, refused, read, stop, Positive}

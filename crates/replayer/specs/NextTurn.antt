@@ -1,15 +1,15 @@
 -- One turn of the loop that judges the orderings of a group that was read, over plain variables.
-use mathlib.Core.Path.{_≡_, refl, sym, ap, _∙_}
+use mathlib.Core.Path.{_≡_, sym, ap, _∙_}
 use mathlib.Core.Bool.{cond}
-use mathlib.Core.List.{List, [], _∷_}
-use Prim.Native.Nat.{ℕ, _+_, _*_, _-_, _≤_, _<_}
+use mathlib.Core.List.{List, _∷_}
+use Prim.Native.Nat.{ℕ, _+_, _-_, _≤_, _<_}
 use native.Mathlib.Omega.{arith}
 use lib.ListN.{length, take, drop}
 use borrow.Author.Tests.{le-leb, lt-leb}
 use Rattle.codec.specs.declared.Op.{Op}
 use Rattle.codec.specs.declared.Position.{Position}
 use Rattle.codec.specs.declared.Record.{Record}
-use Rattle.codec.specs.declared.Record.the-variants.{Ordering}
+use Rattle.codec.specs.declared.Record.the-variants.{Ordering, Access}
 use Rattle.codec.specs.Decode.{recordOf}
 use Rattle.codec.specs.Number.{inBody, misplaced}
 use Rattle.reader.specs.declared.Checked.{Checked}
@@ -30,12 +30,11 @@ use Rattle.replayer.specs.Run.{doneOf}
 use Rattle.replayer.specs.Met.{allMet}
 use Rattle.replayer.specs.Next.{judged}
 
--- the orderings from a place up to the access at `at` are still to be judged; judged, they give what the whole group gives
-pub record Ahead (m : Limits) (b : List ℕ) (runs : List TaskRun) (place end at : ℕ) (op : Op) (next : ℕ) (whole : Next) : Type 0 where
+-- the orderings from a place on are still to be judged; judged, they give what the whole group gives
+pub record Ahead (m : Limits) (b : List ℕ) (runs : List TaskRun) (place end : ℕ) (op : Op) (next : ℕ) (whole : Next) : Type 0 where
   pub ended : Checked
   pub entry : Entry
   pub reads : entryOf m ended place (part place end b) ≡ read entry
-  pub access : at ≡ place + 8 * length (entry .orderings)
   pub same : cond (allMet runs (entry .orderings)) (Open op next) Held ≡ whole
 
 judged-read : (runs : List TaskRun) (from : ℕ) (x : Reading Entry) (e : Entry) (o : Op) (n : ℕ) → x ≡ read e → o ≡ e .op → n ≡ from + entryLength e
@@ -50,66 +49,57 @@ module _ (m : Limits) (b : List ℕ) (runs : List TaskRun) (from end : ℕ) (f :
   next-refused c q = rw (found-refused from (entryOf m (stop inBody from) from (part from end b)) c (sym e ∙ q))
 
   pub ahead-start : (o : Op) (a n : ℕ) → f ≡ FoundAccess o a n
-      → Ahead m b runs from end a o n (judged runs from (entryOf m (stop inBody from) from (part from end b)))
+      → Ahead m b runs from end o n (judged runs from (entryOf m (stop inBody from) from (part from end b)))
   ahead-start o a n q =
       let w = found-entry from (entryOf m (stop inBody from) from (part from end b)) o a n (sym e ∙ q) in
-      record { ended = stop inBody from; entry = w .entry; reads = w .reads; access = w .place; same = judged-read runs from _ (w .entry) o n (w .reads) (w .op) (w .next) }
+      record { ended = stop inBody from; entry = w .entry; reads = w .reads; same = judged-read runs from _ (w .entry) o n (w .reads) (w .op) (w .next) }
 
--- an ordering stands at a place before the access; met, the rest is still ahead, and not met it holds the task
-pub record Passing (m : Limits) (b : List ℕ) (runs : List TaskRun) (place end at : ℕ) (op : Op) (next : ℕ) (whole : Next) (p : Position) : Type 0 where
+-- an ordering stands at a place: met, the rest is still ahead, and not met it holds the task
+pub record Passing (m : Limits) (b : List ℕ) (runs : List TaskRun) (place end : ℕ) (op : Op) (next : ℕ) (whole : Next) (p : Position) : Type 0 where
   pub below : p .task < m .tasks
-  pub met : p .number ≤ doneOf runs (p .task) → Ahead m b runs (place + 8) end at op next whole
+  pub met : p .number ≤ doneOf runs (p .task) → Ahead m b runs (place + 8) end op next whole
   pub unmet : doneOf runs (p .task) < p .number → Held ≡ whole
 
-module _ (m : Limits) (b : List ℕ) (runs : List TaskRun) (place end at : ℕ) (op : Op) (next : ℕ) (whole : Next) (w : Ahead m b runs place end at op next whole) where
-  pub ahead-end : at ≤ place → Open op next ≡ whole
-  unfolding allMet
-  ahead-end h = go (w .entry .orderings) refl
-    where
-      go : (l : List Position) → w .entry .orderings ≡ l → Open op next ≡ whole
-      go [] q = rw q at (w .same)
-      go (p ∷ l) q = absurd (omega (arith, w .access, ap length q))
+module _ (m : Limits) (b : List ℕ) (runs : List TaskRun) (place end : ℕ) (op : Op) (next : ℕ) (whole : Next) (w : Ahead m b runs place end op next whole) where
+  pub ahead-inside : end ≤ length b → place < end
+  ahead-inside h = omega (arith, entry-entered m (w .ended) place (part place end b) (w .entry) (w .reads) .within, entry-long (w .entry), part-length place end b h)
 
   ahead-case : EntryCase m place (part place end b) (w .entry)
   ahead-case = entry-case m place (part place end b) (w .entry) (w .ended) (w .reads)
 
-  passing : (x : More m place (part place end b) (w .entry)) → Passing m b runs place end at op next whole (x .first)
+  passing : (x : More m place (part place end b) (w .entry)) → Passing m b runs place end op next whole (x .first)
   unfolding allMet
   passing x =
       let s : w .entry .orderings ≡ x .first ∷ x .rest .orderings = ap (λ (y : Entry). y .orderings) (x .same) in
-      let a : at ≡ place + 8 + 8 * length (x .rest .orderings) = omega (arith, w .access, ap length s) in
       record {
         below = x .below;
         met = λ h. record {
           ended = stop misplaced place;
           entry = x .rest;
           reads = rw (part-drop 8 place end b) at (x .reads);
-          access = a;
           same = rw (s, le-leb (x .first .number) (doneOf runs (x .first .task)) h) at (w .same);
         };
         unmet = λ h. rw (s, lt-leb (x .first .number) (doneOf runs (x .first .task)) h) at (w .same);
       }
 
-  module _ (h : place < at) (r : Record) (q : r ≡ recordOf inBody (take (end - place) (drop place b))) where
-    ordering-here : More m place (part place end b) (w .entry)
-    ordering-here = elim ahead-case [
-      | last x ↦ absurd (omega (arith, w .access, ap length (x .none)))
-      | more x ↦ x
+  module _ (r : Record) (q : r ≡ recordOf inBody (take (end - place) (drop place b))) where
+    here : recordOf inBody (part place end b) ≡ r
+    unfolding part
+    here = sym q
+
+    -- no ordering stands there: it is the access
+    pub ahead-access : ((p : Position) → r ≡ Ordering p → ⊥) → Open op next ≡ whole
+    unfolding allMet
+    ahead-access h = elim ahead-case [
+      | last x ↦ rw (x .none) at (w .same)
+      | more x ↦ absurd (h (x .first) (sym here ∙ x .here))
     ]
 
-    -- no other record stands there
-    ordering-there : r ≡ Ordering (ordering-here .first)
-    unfolding part
-    ordering-there = q ∙ ordering-here .here
-
-    pub ahead-ordering : (p : Position) × (r ≡ Ordering p)
-    ahead-ordering = (ordering-here .first, ordering-there)
-
-    pub ahead-turn : (p : Position) → r ≡ Ordering p → Passing m b runs place end at op next whole p
-    ahead-turn p k = let e : ordering-here .first ≡ p = the-same (sym ordering-there ∙ k) in rw (← e) (passing ordering-here)
+    pub ahead-turn : (p : Position) → r ≡ Ordering p → Passing m b runs place end op next whole p
+    ahead-turn p k = elim ahead-case [
+      | last x ↦ absurd (let y : Access (w .entry .op) ≡ Ordering p = sym (x .here) ∙ here ∙ k in let z : _≡_ {A = ℕ} 0 1 = cc in omega arith)
+      | more x ↦ let e : x .first ≡ p = the-same (sym (x .here) ∙ here ∙ k) in rw (← e) (passing x)
+    ]
       where
         the-same : {a c : Position} → Ordering a ≡ Ordering c → a ≡ c
         the-same g = cc
-
-  pub ahead-inside : end ≤ length b → place < end
-  ahead-inside h = omega (arith, entry-entered m (w .ended) place (part place end b) (w .entry) (w .reads) .within, entry-long (w .entry), part-length place end b h)

@@ -19,6 +19,7 @@ use Rattle.reader.specs.Positive.{parse-positive}
 use Rattle.reader.specs.Reading.{Reading, refused, read}
 use Rattle.reader.specs.Standing.{Standing, parse-stands}
 use Rattle.replayer.specs.declared.TaskRun.{TaskRun}
+use Rattle.replayer.specs.Number.{wrongLength}
 use Rattle.replayer.specs.Run.{blankTask, blankTasks, taskAt, doneOf}
 use Rattle.replayer.specs.Sound.{soundOf, sound-test}
 use Rattle.replayer.specs.Moved.{Shaped}
@@ -110,5 +111,5 @@ open-accepted b memory h = go (parse b) refl
         omega arith)
     go (read p) q = elim (split (eqb (length memory) (length (p .recording .owners)))) [
       | passes d ↦ record { parsed = p; reads = q; entries = eqb-true _ _ d }
-      | fails d ↦ absurd (let z : _≡_ {A = ℕ} 3 0 = rw (q, d) at h in omega arith)
+      | fails d ↦ absurd (let z : _≡_ {A = ℕ} wrongLength 0 = rw (q, d) at h in omega arith)
     ]

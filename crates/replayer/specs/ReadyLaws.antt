@@ -37,7 +37,7 @@ lowest-is (suc k) f i (suc n) h = elim (split (f i)) [
   | fails p ↦ rw p (lowest-more k f i n (lowestIn k f (suc i) n) p (lowest-is k f (suc i) n (omega arith)))
 ]
 
-pub record Word (r : Run) (b : List ℕ) : Type 0 where
+pub record ReadySet (r : Run) (b : List ℕ) : Type 0 where
   pub number : readyOf r b .number ≡ 0
   pub bit : (t : ℕ) → t < r .tasks → hasBit (readyOf r b .word) t ≡ isReady r b t
   pub above : (t : ℕ) → r .tasks ≤ t → hasBit (readyOf r b .word) t ≡ false
@@ -47,7 +47,7 @@ pub record Word (r : Run) (b : List ℕ) : Type 0 where
 word-facts : (f : ℕ → Bool) (n t : ℕ) → t < n → hasBit (wordOf f 0 n) t ≡ f t
 word-facts f n t h = let e : 0 + t ≡ t = omega arith in rw e at (word-bit f 0 n t h)
 
-pub ready-word : (r : Run) (b : List ℕ) → soundOf r (length b) ≡ true → Word r b
+pub ready-word : (r : Run) (b : List ℕ) → soundOf r (length b) ≡ true → ReadySet r b
 unfolding readyOf
 ready-word r b s =
     let f = sound-facts r (length b) s .few-tasks in

@@ -2,7 +2,7 @@
 ghost use mathlib.Core.Path.{_≡_};
 ghost use Prim.Native.Nat.{_+_, _<_};
 ghost use lib.ListN.{length};
-ghost use Rattle.reader.specs.EntryCase.{objectOf};
+ghost use Rattle.reader.specs.Object.{objectOf};
 ghost use Rattle.replayer.specs.Run.{doneOf, movedOf};
 ghost use Rattle.replayer.specs.Memory.{kindOf, valueOf, performed};
 ghost use Rattle.replayer.specs.StepOf.{refusedStep, barredOf, haltOf};
@@ -22,7 +22,7 @@ use codec::number::NO_TASK;
 use reader::Checked;
 
 // 17, 3, 5, 15, or 0 where none of them applies.
-pub fn barred(run: Run, size: usize, entries: usize, task: usize) -> u32
+pub(crate) fn barred(run: Run, size: usize, entries: usize, task: usize) -> u32
     ensures { λ r. ⌜ r ≡ barredOf run size entries task ⌝ }
 {
     if !sound(run, size) {
@@ -41,7 +41,7 @@ pub fn barred(run: Run, size: usize, entries: usize, task: usize) -> u32
     0
 }
 
-pub fn refused(run: Run, number: u32, offset: usize) -> Stepped
+pub(crate) fn refused(run: Run, number: u32, offset: usize) -> Stepped
     ensures { λ r. ⌜ r ≡ refusedStep run number offset ⌝ }
 {
     Stepped {
@@ -56,7 +56,7 @@ pub fn refused(run: Run, number: u32, offset: usize) -> Stepped
 }
 
 // Why an access is not done: the reader's number and offset, 16, or 0 where nothing holds it.
-pub fn halt(n: Next) -> Checked
+pub(crate) fn halt(n: Next) -> Checked
     ensures { λ r. ⌜ r ≡ haltOf n ⌝ }
 {
     match n {
@@ -73,7 +73,7 @@ pub fn halt(n: Next) -> Checked
 }
 
 // The kind of an access's record.
-pub fn kind_of(op: Op) -> u16
+pub(crate) fn kind_of(op: Op) -> u16
     ensures { λ r. ⌜ r ≡ kindOf op ⌝ }
 {
     match op {
@@ -83,7 +83,7 @@ pub fn kind_of(op: Op) -> u16
 }
 
 // The object that an access names.
-pub fn object_of(op: Op) -> usize
+pub(crate) fn object_of(op: Op) -> usize
     ensures { λ r. ⌜ r ≡ objectOf op ⌝ }
 {
     match op {
@@ -93,7 +93,7 @@ pub fn object_of(op: Op) -> usize
 }
 
 // A read gives the memory's value, a write stores and gives its own.
-pub fn perform(op: Op, memory: &mut [u32]) -> u32
+pub(crate) fn perform(op: Op, memory: &mut [u32]) -> u32
     requires { ⌜ objectOf op < length (now memory) ⌝ }
     ensures { λ r. ⌜ r ≡ valueOf op (now (memory .entry)) ⌝ }
     ensures { λ r. ⌜ now (memory .exit) ≡ performed op (now (memory .entry)) ⌝ }
@@ -112,7 +112,7 @@ pub fn perform(op: Op, memory: &mut [u32]) -> u32
 }
 
 // The task goes on to a place, with one more access done, `access` in all; no other task moves.
-pub fn moved(run: Run, task: usize, next: usize, access: usize) -> Run
+pub(crate) fn moved(run: Run, task: usize, next: usize, access: usize) -> Run
     requires { ⌜ (task < 16) × (access ≡ doneOf (run .runs) task + 1) ⌝ }
     ensures { λ r. ⌜ r ≡ movedOf run task next ⌝ }
 {

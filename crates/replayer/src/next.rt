@@ -7,7 +7,7 @@ ghost use Rattle.reader.specs.Part.{part};
 ghost use Rattle.reader.specs.Reading.{stop};
 ghost use Rattle.reader.specs.Entry.{entryOf};
 ghost use Rattle.replayer.specs.Run.{taskAt};
-ghost use Rattle.replayer.specs.Next.{refusalOf, judged, nextOf, isOpen};
+ghost use Rattle.replayer.specs.Next.{refusalOf, judged, nextOf};
 use crate::Run;
 use crate::TaskRun;
 use codec::Op;
@@ -18,7 +18,6 @@ use reader::Checked;
 use reader::Limits;
 use reader::entry::Found;
 use reader::entry::entry_at;
-use reader::entry::other_number;
 
 // An access that may be done now and the place behind it; one that an ordering holds; or records that do not read.
 pub enum Next {
@@ -27,7 +26,7 @@ pub enum Next {
     Refused(Checked),
 }
 
-// The reader's number and offset.
+// The reader's number and offset, 0 and 0 where an access was found.
 fn refusal(f: Found) -> Checked
     ensures { λ r. ⌜ r ≡ refusalOf f ⌝ }
 {
@@ -44,23 +43,21 @@ fn refusal(f: Found) -> Checked
     }
 }
 
-// The group from a place up to a body's end: all of it is read before an ordering is judged.
+// The group from a place up to a body's end: all of it is read before an ordering is judged, so the first record that is no
+// ordering is the access.
 fn next_at(bytes: &[u8], from: usize, end: usize, limits: Limits, runs: [TaskRun; 16]) -> Next
     requires { ⌜ (limits .tasks ≤ 16) × (end ≤ length (now bytes)) ⌝ }
     ensures { λ r. ⌜ r ≡ judged runs from (entryOf limits (stop inBody from) from (part from end (now (bytes .entry)))) ⌝ }
 {
     let f = entry_at(bytes, from, end, limits);
-    let Found::Access { op, at, next } = f else {
+    let Found::Access { op, at: _, next } = f else {
         return Next::Refused(refusal(f));
     };
     let mut place = from;
-    while place < at {
+    loop {
         let r = record(&bytes[place..end], BODY);
         let Record::Ordering(p) = r else {
-            return Next::Refused(Checked {
-                number: other_number(r),
-                offset: place,
-            });
+            return Next::Open { op, next };
         };
         let source = p.task as usize;
         let s = runs[source];
@@ -69,11 +66,10 @@ fn next_at(bytes: &[u8], from: usize, end: usize, limits: Limits, runs: [TaskRun
         }
         place += 8;
     }
-    Next::Open { op, next }
 }
 
 // The next group of a task, with T and N of the run.
-pub fn next_of(run: Run, bytes: &[u8], task: usize) -> Next
+pub(crate) fn next_of(run: Run, bytes: &[u8], task: usize) -> Next
     requires { ⌜ (run .tasks ≤ 16) × (task < 16) × (taskAt (run .runs) task .end ≤ length (now bytes)) ⌝ }
     ensures { λ r. ⌜ r ≡ nextOf run (now (bytes .entry)) task ⌝ }
 {

@@ -13,7 +13,7 @@ use codec::field::get32;
 use reader::Span;
 
 // A value for each entry, from the head: it stands behind the owner's byte.
-pub fn set_values(bytes: &[u8], memory: &mut [u32])
+pub(crate) fn set_values(bytes: &[u8], memory: &mut [u32])
     requires { ⌜ headLength (length (now memory)) ≤ length (now bytes) ⌝ }
     ensures { λ r. ⌜ now (memory .exit) ≡ valuesOf (length (now (memory .entry))) (drop 8 (now (bytes .entry))) ⌝ }
 {
@@ -37,7 +37,7 @@ fn blank_tasks() -> [TaskRun; 16]
 }
 
 // The first `tasks` tasks at the start of their bodies.
-pub fn starts(spans: [Span; 16], tasks: usize) -> [TaskRun; 16]
+pub(crate) fn starts(spans: [Span; 16], tasks: usize) -> [TaskRun; 16]
     requires { ⌜ tasks ≤ 16 ⌝ }
     ensures { λ r. ⌜ r ≡ startsOf spans tasks ⌝ }
 {
@@ -56,7 +56,7 @@ pub fn starts(spans: [Span; 16], tasks: usize) -> [TaskRun; 16]
 }
 
 // A refused opening: the blank run.
-pub fn refused(number: u32, offset: usize) -> Opened
+pub(crate) fn refused(number: u32, offset: usize) -> Opened
     ensures { λ r. ⌜ r ≡ refusedOpen number offset ⌝ }
 {
     let runs = blank_tasks();

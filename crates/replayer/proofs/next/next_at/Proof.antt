@@ -1,10 +1,10 @@
 use mathlib.Core.Path.{_≡_, refl, sym, _∙_}
 use native.Mathlib.Omega.{arith}
-use Prim.Native.Nat.{_-_, _<_}
+use Prim.Native.Nat.{ℕ, _-_, _<_}
 use denote.Ref.{now}
 use borrow.Author.Needs.{needs}
-use Rattle.replayer.specs.NextTurn.{Passing, Ahead, next-refused, ahead-start, ahead-turn, ahead-ordering, ahead-end, ahead-inside}
 use Rattle.replayer.specs.Next.{judged, refusalOf}
+use Rattle.replayer.specs.NextTurn.{Ahead, Passing, next-refused, ahead-start, ahead-turn, ahead-access, ahead-inside}
 use Rattle.replayer.proofs.Else.{not-found, not-ordering}
 use Rattle.reader.specs.declared.Limits.{Limits}
 use Rattle.reader.specs.declared.entry.Found.the-variants.{Access}
@@ -17,31 +17,31 @@ use Rattle.replayer.proofs.next.next_at.Statement.{statement}
 use Rattle.replayer.proofs.next.next_at.Tie as tie
 
 abbrev Inv-loop : tie.InvT-loop
-Inv-loop bytes from end runs op at next place₀ place =
-    (m : Limits) → found from (entryOf m (stop inBody from) from (part from end bytes)) ≡ Access op at next
-    → Ahead m bytes runs place end at op next (judged runs from (entryOf m (stop inBody from) from (part from end bytes)))
+Inv-loop bytes from end runs op next place₀ place =
+    (m : Limits) (at : ℕ) → found from (entryOf m (stop inBody from) from (part from end bytes)) ≡ Access op at next
+    → Ahead m bytes runs place end op next (judged runs from (entryOf m (stop inBody from) from (part from end bytes)))
 
 abbrev μ-loop : tie.MeasureT-loop
-μ-loop bytes from end runs op at next place₀ place = at - place
+μ-loop bytes from end runs op next place₀ place = end - place
 
 -- what is ahead, by the call's own limits
-ahead : (c : tie.In-loop Inv-loop μ-loop) →
-    let a = c .before .before .before .before .before .before .before .args in
-    let g = c .before .before .before .f .given .0 in
-    Ahead (a .limits) (now (a .bytes)) (a .t5) (c .before .loop .place) (a .end) (g .1 .0) (g .0) (g .1 .1 .0)
+ahead : (c : tie.At-loop Inv-loop μ-loop) →
+    let a = c .before .before .before .before .before .before .args in
+    let g = c .before .before .f .given .0 in
+    Ahead (a .limits) (now (a .bytes)) (a .t5) (c .loop .place) (a .end) (g .0) (g .1 .1 .0)
     (judged (a .t5) (a .from) (entryOf (a .limits) (stop inBody (a .from)) (a .from) (part (a .from) (a .end) (now (a .bytes)))))
-ahead c = c .before .loop .inv (c .before .before .before .before .before .before .before .args .limits) (sym (c .before .before .before .before .before .entry-at .ensures) ∙ c .before .before .before .f .given .1)
+ahead c = c .loop .inv (c .before .before .before .before .before .before .args .limits) _ (sym (c .before .before .before .before .entry-at .ensures) ∙ c .before .before .f .given .1)
 
-inside : (c : tie.In-loop Inv-loop μ-loop) → c .before .loop .place < c .before .before .before .before .before .before .before .args .end
-inside c = ahead-inside _ _ _ _ _ _ _ _ _ (ahead c) (c .before .before .before .before .before .before .before .pre .1)
+inside : (c : tie.At-loop Inv-loop μ-loop) → c .loop .place < c .before .before .before .before .before .before .args .end
+inside c = ahead-inside _ _ _ _ _ _ _ _ (ahead c) (c .before .before .before .before .before .before .pre .1)
 
 -- the ordering that stands there
 passing : (c : tie.After-known-told2 Inv-loop μ-loop) →
-    let a = c .before .before .before .before .before .before .before .before .before .before .before .before .args in
-    let g = c .before .before .before .before .before .before .before .before .f .given .0 in
-    Passing (a .limits) (now (a .bytes)) (a .t5) (c .before .before .before .before .before .before .loop .place) (a .end) (g .1 .0) (g .0) (g .1 .1 .0)
+    let a = c .before .before .before .before .before .before .before .before .before .before .before .args in
+    let g = c .before .before .before .before .before .before .before .f .given .0 in
+    Passing (a .limits) (now (a .bytes)) (a .t5) (c .before .before .before .before .before .loop .place) (a .end) (g .0) (g .1 .1 .0)
     (judged (a .t5) (a .from) (entryOf (a .limits) (stop inBody (a .from)) (a .from) (part (a .from) (a .end) (now (a .bytes))))) (c .before .r .given .0 .0)
-passing c = ahead-turn _ _ _ _ _ _ _ _ _ (ahead (c .before .before .before .before .before)) (c .before .before .before .before .before .loop-test .taken) (c .before .before .before .«record» .result) (c .before .before .before .«record» .ensures) _ (c .before .r .given .1)
+passing c = ahead-turn _ _ _ _ _ _ _ _ (ahead (c .before .before .before .before .before)) (c .before .before .before .«record» .result) (c .before .before .before .«record» .ensures) _ (c .before .r .given .1)
 
 entry-at-requires : tie.Need-entry-at-requires Inv-loop μ-loop
 entry-at-requires c κs = search needs
@@ -62,7 +62,7 @@ returns c =
     rw (next-refused (a .limits) (now (a .bytes)) (a .t5) (a .from) (a .end) (f .result) (f .ensures) (refusalOf (f .result)) (not-found (f .result) (c .before .before .match .keys2)), c .refusal .ensures)
 
 loop-holds : tie.Need-loop-holds Inv-loop μ-loop
-loop-holds c = let a = c .before .before .before .before .before .args in λ m q. ahead-start m (now (a .bytes)) (a .t5) (a .from) (a .end) _ (sym q) _ _ _ refl
+loop-holds c = let a = c .before .before .before .before .before .args in λ m at q. ahead-start m (now (a .bytes)) (a .t5) (a .from) (a .end) _ (sym q) _ at _ refl
 
 sub-record : tie.Need-sub-record Inv-loop μ-loop
 sub-record c = omega (arith, inside c)
@@ -71,7 +71,7 @@ part-record-start : tie.Need-part-record-start Inv-loop μ-loop
 part-record-start c = omega (arith, inside c)
 
 part-record-end : tie.Need-part-record-end Inv-loop μ-loop
-part-record-end c = c .before .before .before .before .before .before .before .pre .1
+part-record-end c = c .before .before .before .before .before .before .pre .1
 
 record-requires : tie.Need-record-requires Inv-loop μ-loop
 record-requires c κs = search needs
@@ -79,22 +79,17 @@ record-requires c κs = search needs
 enum-known-r : tie.Need-enum-known-r Inv-loop μ-loop
 enum-known-r c = search needs
 
-other-number-requires : tie.Need-other-number-requires Inv-loop μ-loop
-other-number-requires c κs = search needs
-
 returns-2 : tie.Need-returns-2 Inv-loop μ-loop
-returns-2 c =
-    let p = ahead-ordering _ _ _ _ _ _ _ _ _ (ahead (c .before .before .before .before)) (c .before .before .before .before .loop-test .taken) (c .before .before .«record» .result) (c .before .before .«record» .ensures) in
-    absurd (not-ordering _ (p .0) (c .before .match2 .keys2) (p .1))
+returns-2 c = ahead-access _ _ _ _ _ _ _ _ (ahead (c .before .before .before)) (c .before .«record» .result) (c .before .«record» .ensures) (λ p. not-ordering _ p (c .match2 .keys2))
 
 cast-source : tie.Need-cast-source Inv-loop μ-loop
 cast-source c = search needs
 
 mul-s : tie.Need-mul-s Inv-loop μ-loop
-mul-s c = omega (arith, passing (c .before) .below, c .before .before .before .before .before .before .before .before .before .before .before .before .before .pre .0)
+mul-s c = omega (arith, passing (c .before) .below, c .before .before .before .before .before .before .before .before .before .before .before .before .pre .0)
 
 array-copy-out-s : tie.Need-array-copy-out-s Inv-loop μ-loop
-array-copy-out-s c = omega (arith, passing (c .before) .below, c .before .before .before .before .before .before .before .before .before .before .before .before .before .pre .0)
+array-copy-out-s c = omega (arith, passing (c .before) .below, c .before .before .before .before .before .before .before .before .before .before .before .before .pre .0)
 
 cast-if1 : tie.Need-cast-if1 Inv-loop μ-loop
 cast-if1 c = search needs
@@ -106,15 +101,12 @@ add-place : tie.Need-add-place Inv-loop μ-loop
 add-place c = omega (arith, inside (c .before .before .before .before .before .before .before .before .before .before))
 
 loop-less : tie.Need-loop-less Inv-loop μ-loop
-loop-less c = search needs
+loop-less c = omega (arith, inside (c .before .before .before .before .before .before .before .before .before .before))
 
 loop-again : tie.Need-loop-again Inv-loop μ-loop
 loop-again c =
     let r = c .before .before .before .before .before .before .before .before .«record» in
-    λ m q. ahead-turn _ _ _ _ _ _ _ _ _ (c .before .before .before .before .before .before .before .before .before .before .before .loop .inv m q) (c .before .before .before .before .before .before .before .before .before .before .loop-test .taken) (r .result) (r .ensures) _ (c .before .before .before .before .before .before .r .given .1) .met (c .if1 .left)
-
-returns-4 : tie.Need-returns-4 Inv-loop μ-loop
-returns-4 c = ahead-end _ _ _ _ _ _ _ _ _ (c .before .loop .inv (c .before .before .before .before .before .before .before .args .limits) (sym (c .before .before .before .before .before .entry-at .ensures) ∙ c .before .before .before .f .given .1)) (c .loop-test .left)
+    λ m at q. ahead-turn _ _ _ _ _ _ _ _ (c .before .before .before .before .before .before .before .before .before .before .loop .inv m at q) (r .result) (r .ensures) _ (c .before .before .before .before .before .before .r .given .1) .met (c .if1 .left)
 
 pub next-at-spec : {M : Type 1} → statement M
 next-at-spec =
@@ -133,7 +125,6 @@ next-at-spec =
     part-record-end
     record-requires
     enum-known-r
-    other-number-requires
     returns-2
     cast-source
     mul-s
@@ -142,5 +133,4 @@ next-at-spec =
     returns-3
     add-place
     loop-less
-    loop-again
-    returns-4)
+    loop-again)
