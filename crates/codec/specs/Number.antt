@@ -57,6 +57,14 @@ range = 13
 abbrev pub inBody : ℕ
 inBody = 14
 
+-- nothing left for this task
+abbrev pub finished : ℕ
+finished = 15
+
+-- the task is held by an ordering
+abbrev pub held : ℕ
+held = 16
+
 -- unsound state or run
 abbrev pub unsound : ℕ
 unsound = 17

@@ -28,5 +28,9 @@ pub const MISPLACED: u32 = 12;
 pub const RANGE: u32 = 13;
 // 14: (a), (d) against a body's end, and a wrong count of accesses.
 pub const BODY: u32 = 14;
+// 15: nothing left for this task.
+pub const FINISHED: u32 = 15;
+// 16: the task is held by an ordering.
+pub const HELD: u32 = 16;
 // 17: unsound state or run.
 pub const UNSOUND: u32 = 17;

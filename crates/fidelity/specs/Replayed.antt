@@ -106,9 +106,9 @@ module _ (start : ℕ → ℕ) (h : History) (bytes : List ℕ) (p : Parsed) (m 
     | yes l ↦ rw (word steps .bit t (omega (arith, sim steps .tasks-same)), sim-ready h bytes tasks objects (after start h steps) (steppedAll bytes first steps) (sim steps) t l)
         (ideal .test-tells-ready steps t)
     | no l ↦ (
-        λ q. absurd (never (hasBit (readyOf (steppedAll bytes first steps .run) bytes .word) t) q (word steps .above t (omega (arith, sim steps .tasks-same)))),
-        λ r. absurd (none-above steps t (omega arith) r),
-      )
+      λ q. absurd (never (hasBit (readyOf (steppedAll bytes first steps .run) bytes .word) t) q (word steps .above t (omega (arith, sim steps .tasks-same)))),
+      λ r. absurd (none-above steps t (omega arith) r),
+    )
   ])
 
   pub never-more : (steps : List ℕ) → tallyBy bytes first steps ≤ length h

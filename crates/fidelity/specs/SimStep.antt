@@ -140,13 +140,16 @@ module _ (h : History) (bytes : List ℕ) (tasks objects : ℕ) (holds : Holds h
             left = λ u l. rw (w .run) (left-moved u l);
             memory = λ c l. rw (w .after, op-is) (perform-same (e .act) (b .memory) (s .memory) objects (i .memory) (i .entries) object-low (holds .recordable (k .access .at)) c l);
           });
-          played = λ z. (e, record {
-            access = k .access;
-            replies = k .answers;
-            number = w .access ∙ (omega (arith, i .done t));
-            shows = shows-same (e .act) (b .memory) (s .memory) objects (i .memory) object-low (holds .recordable (k .access .at)) (answerOf bytes b t)
-                (w .kind ∙ ap kindOf op-is) (w .names ∙ ap objectOf op-is) (w .value ∙ ap (λ (o : Op). valueOf o (b .memory)) op-is);
-          });
+          played = λ z. (
+            e,
+            record {
+              access = k .access;
+              replies = k .answers;
+              number = w .access ∙ (omega (arith, i .done t));
+              shows = shows-same (e .act) (b .memory) (s .memory) objects (i .memory) object-low (holds .recordable (k .access .at)) (answerOf bytes b t)
+                  (w .kind ∙ ap kindOf op-is) (w .names ∙ ap objectOf op-is) (w .value ∙ ap (λ (o : Op). valueOf o (b .memory)) op-is);
+            },
+          );
         }
 
   -- neither is taken

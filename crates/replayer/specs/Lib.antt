@@ -6,7 +6,6 @@ pub mod Moved
 pub mod Next
 pub mod NextLaws
 pub mod NextTurn
-pub mod Number
 pub mod OpenLaws
 pub mod OpenOf
 pub mod OpenTurn

@@ -19,7 +19,7 @@ use Rattle.reader.specs.Positive.{parse-positive}
 use Rattle.reader.specs.Reading.{Reading, refused, read}
 use Rattle.reader.specs.Standing.{Standing, parse-stands}
 use Rattle.replayer.specs.declared.TaskRun.{TaskRun}
-use Rattle.replayer.specs.Number.{wrongLength}
+use Rattle.codec.specs.Number.{entries as wrongLength}
 use Rattle.replayer.specs.Run.{blankTask, blankTasks, taskAt, doneOf}
 use Rattle.replayer.specs.Sound.{soundOf, sound-test}
 use Rattle.replayer.specs.Moved.{Shaped}

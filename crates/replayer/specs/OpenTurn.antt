@@ -18,7 +18,7 @@ use Rattle.reader.specs.Parse.{Parsed, valuesOf, parse}
 use Rattle.reader.specs.Positive.{parse-positive}
 use Rattle.reader.specs.Reading.{Reading, refused, read}
 use Rattle.reader.specs.Standing.{Standing, parse-stands}
-use Rattle.replayer.specs.Number.{wrongLength}
+use Rattle.codec.specs.Number.{entries as wrongLength}
 use Rattle.replayer.specs.Run.{blankTasks}
 use Rattle.replayer.specs.OpenOf.{startOf, startsOf, refusedOpen, onParse, openOf}
 

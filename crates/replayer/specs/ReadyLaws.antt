@@ -8,7 +8,7 @@ use native.Mathlib.Omega.{arith}
 use lib.ListN.{length}
 use Rattle.codec.specs.Decide.{passes, fails, split}
 use Rattle.replayer.specs.declared.Run.{Run}
-use Rattle.replayer.specs.Number.{unsound}
+use Rattle.codec.specs.Number.{unsound}
 use Rattle.replayer.specs.Sound.{soundOf, sound-facts}
 use Rattle.replayer.specs.ReadyOf.{isReady, readyOf}
 use Rattle.replayer.specs.Word.{wordOf, hasBit, countOf, lowestIn, readyCount, lowestReady}

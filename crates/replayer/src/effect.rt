@@ -10,15 +10,15 @@ use crate::Run;
 use crate::Stepped;
 use crate::TaskRun;
 use crate::next::Next;
-use crate::number::FINISHED;
-use crate::number::HELD;
-use crate::number::LENGTH;
-use crate::number::UNSOUND;
 use crate::sound::sound;
 use codec::Op;
 use codec::kind::READ;
 use codec::kind::WRITE;
+use codec::number::ENTRIES;
+use codec::number::FINISHED;
+use codec::number::HELD;
 use codec::number::NO_TASK;
+use codec::number::UNSOUND;
 use reader::Checked;
 
 // 17, 3, 5, 15, or 0 where none of them applies.
@@ -29,7 +29,7 @@ pub(crate) fn barred(run: Run, size: usize, entries: usize, task: usize) -> u32
         return UNSOUND;
     }
     if entries != run.objects {
-        return LENGTH;
+        return ENTRIES;
     }
     if run.tasks <= task {
         return NO_TASK;
