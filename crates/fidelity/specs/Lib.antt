@@ -3,3 +3,4 @@ pub mod Bench
 pub mod Statement
 pub mod Filed
 pub mod Matches
+pub mod Turn
