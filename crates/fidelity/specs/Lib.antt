@@ -4,3 +4,4 @@ pub mod Statement
 pub mod Filed
 pub mod Matches
 pub mod Turn
+pub mod Follows
