@@ -5,3 +5,4 @@ pub mod Filed
 pub mod Matches
 pub mod Turn
 pub mod Follows
+pub mod FirstBox
