@@ -6,3 +6,6 @@ pub mod Matches
 pub mod Turn
 pub mod Follows
 pub mod FirstBox
+pub mod Packed
+pub mod BoxMatches
+pub mod BoxReference
