@@ -1,6 +1,6 @@
 -- The recorder's side of the claim: the recording that any calls from an accepted opening end in reads as the recording of the
 -- history of its accepted accesses, and the box's memory is that history's reference memory.
-use mathlib.Core.List.{List, [], _++_}
+use mathlib.Core.List.{List, []}
 use mathlib.Core.Path.{_≡_, refl, sym, _∙_}
 use Prim.Native.Nat.{ℕ, _+_, _≤_, _<_}
 use native.Mathlib.Omega.{arith}

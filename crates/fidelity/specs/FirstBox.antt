@@ -1,8 +1,8 @@
 -- An accepted opening: what its arguments have, what it leaves, and so what holds of the box after any calls from it.
-use mathlib.Core.Bool.{true, false, _&&_}
+use mathlib.Core.Bool.{true}
 use mathlib.Core.List.{List, [], _∷_}
 use mathlib.Core.Path.{_≡_, refl}
-use Prim.Native.Nat.{ℕ, zero, suc, _+_, _*_, _≤_, _<_}
+use Prim.Native.Nat.{ℕ, zero, suc, _<_}
 use native.Mathlib.Omega.{arith}
 use borrow.Author.Tests.{eqb-true, ltb-true}
 use lib.Dec.{eqb, ltb}
@@ -17,9 +17,8 @@ use Rattle.reader.specs.Range.{AllUnder}
 use Rattle.history.specs.History.{at-nil}
 use Rattle.tracker.specs.Opened.{openedState, Opens}
 use Rattle.tracker.specs.Tracks.{tracks-opened}
-use Rattle.recorder.specs.OpenOf.{openNumber, OpenOutcome, opened, openOf}
+use Rattle.recorder.specs.OpenOf.{openNumber, opened, openOf}
 use Rattle.recorder.specs.OpenTurn.{OpenFacts, open-facts, open-accepted}
-use Rattle.recorder.specs.WholeRun.{Box}
 use Rattle.fidelity.specs.Box.{Opening, openedBy, Asked, firstBox, lastBox, recorded}
 use Rattle.fidelity.specs.Filed.{filedOf}
 use Rattle.fidelity.specs.Follows.{Follows, follows-all}

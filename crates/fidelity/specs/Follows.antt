@@ -1,37 +1,36 @@
 -- What holds of the box after any calls from an accepted opening: state, memory and history are the tracker's, each log is the bytes
 -- of its task's entries, and those are in range. The opening makes it hold, and each call keeps it.
-use mathlib.Core.Bool.{Bool, true, false, cond, _&&_}
+use mathlib.Core.Bool.{Bool, true, false, cond}
 use mathlib.Core.List.{List, [], _∷_, _++_, append-nil, append-assoc}
-use mathlib.Core.Path.{_≡_, refl, sym, subst, _∙_}
-use Prim.Native.Nat.{ℕ, zero, suc, _+_, _*_, _≤_, _<_}
+use mathlib.Core.Path.{_≡_, sym, subst, _∙_}
+use Prim.Native.Nat.{ℕ, _+_, _*_, _≤_, _<_}
 use native.Mathlib.Omega.{arith}
-use borrow.Author.Tests.{eqb-true, eqb-false, ltb-true}
-use lib.Dec.{eqb, ltb}
+use borrow.Author.Tests.{eqb-true, eqb-false}
+use lib.Dec.{eqb}
 use lib.ListN.{length, getD, length-append}
 use Rattle.codec.specs.Decide.{passes, fails, split}
 use Rattle.reader.specs.declared.Limits.{Limits}
 use Rattle.reader.specs.Recording.{Entry as FileEntry}
-use Rattle.reader.specs.Bytes.{entryBytes, entryLength, entry-length, bodyBytes}
+use Rattle.reader.specs.Bytes.{entryBytes, entry-length, bodyBytes}
 use Rattle.reader.specs.Range.{EntryIn, EntriesIn}
-use Rattle.history.specs.Entry.{Act, Entry}
-use Rattle.history.specs.History.{History, count, count-none, count-own, count-other, At, here, there, at-nil}
+use Rattle.history.specs.Entry.{Entry}
+use Rattle.history.specs.History.{History, count, count-none, count-own, count-other, At, here, there}
 use Rattle.tracker.specs.Accesses.{entryOf as trackedEntry}
 use Rattle.tracker.specs.After.{next-tasks, next-objects}
-use Rattle.tracker.specs.Invariant.{Invariant}
-use Rattle.tracker.specs.Tracks.{Tracks, tracks-more, tracks-invariant}
+use Rattle.tracker.specs.Tracks.{Tracks, tracks-more}
 use Rattle.recorder.specs.AccessOf.{isWrite}
 use Rattle.recorder.specs.Accepted.{Takes, entry-in, entry-bound}
 use Rattle.recorder.specs.WholeRun.{Call, Box, called, calledAll}
 use Rattle.fidelity.specs.Box.{Asked, callsOf, accepts, entryOf, recordedFrom}
-use Rattle.fidelity.specs.Filed.{filed, filedOf}
+use Rattle.fidelity.specs.Filed.{filedOf}
 use Rattle.fidelity.specs.Matches.{Recordable}
-use Rattle.fidelity.specs.Turn.{fileEntry, historyEntry, boxAfter, Turn, takenTurn, turnedAway, turn, entry-filed, memory-after, memory-length}
+use Rattle.fidelity.specs.Turn.{fileEntry, historyEntry, boxAfter, takenTurn, turnedAway, turn, entry-filed, memory-after, memory-length}
 
 abbrev pub limits : ℕ → ℕ → ℕ → Limits
 limits tasks objects t = record { tasks = tasks; objects = objects; own = t }
 
 -- one entry more behind a body
-pub body-more : (es : List FileEntry) (e : FileEntry) → bodyBytes (es ++ (e ∷ [])) ≡ bodyBytes es ++ entryBytes e
+body-more : (es : List FileEntry) (e : FileEntry) → bodyBytes (es ++ (e ∷ [])) ≡ bodyBytes es ++ entryBytes e
 unfolding bodyBytes
 body-more [] e = append-nil (entryBytes e)
 body-more (x ∷ es) e = rw (body-more es e, append-assoc)

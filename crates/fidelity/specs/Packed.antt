@@ -1,9 +1,8 @@
 -- The sections of the box's logs: each log is a body in range, so an output with room is not turned away; and what accepted sections
 -- wrote, joined, is the sections of the tasks' bodies.
-use mathlib.Core.Bool.{true, false}
-use mathlib.Core.List.{List, [], _∷_, _++_}
-use mathlib.Core.Path.{_≡_, refl, sym, subst, _∙_}
-use Prim.Native.Nat.{ℕ, zero, suc, _+_, _*_, _≤_, _<_}
+use mathlib.Core.List.{List, [], _∷_}
+use mathlib.Core.Path.{_≡_, refl, sym, _∙_}
+use Prim.Native.Nat.{ℕ, zero, suc, _+_, _≤_, _<_}
 use native.Mathlib.Omega.{arith}
 use borrow.Author.Tests.{lt-leb, le-ltb, eqb-true, eqb-false}
 use lib.Dec.{eqb}
@@ -11,7 +10,6 @@ use lib.ListN.{length, getD, take, length-append}
 use Rattle.codec.specs.Decide.{passes, fails, split}
 use Rattle.codec.specs.Encode.{section, section-length}
 use Rattle.codec.specs.Kind.{sectionKind, lengthOf}
-use Rattle.reader.specs.declared.Limits.{Limits}
 use Rattle.reader.specs.Body.{walkOf}
 use Rattle.reader.specs.Bytes.{bodyBytes, sectionsBytes}
 use Rattle.reader.specs.Joined.{reads-walk}
@@ -19,13 +17,13 @@ use Rattle.reader.specs.Range.{BodyIn, BodiesIn}
 use Rattle.reader.specs.Reading.{stop}
 use Rattle.reader.specs.Recording.{Entry as FileEntry}
 use Rattle.reader.specs.Roundtrip.{body-back}
-use Rattle.history.specs.History.{History, count}
+use Rattle.history.specs.History.{History}
 use Rattle.tracker.specs.declared.State.{State}
 use Rattle.tracker.specs.Facts.{Sound, sound-test}
 use Rattle.tracker.specs.State.{doneOf}
 use Rattle.tracker.specs.Tracks.{tracks-done, tracks-invariant}
-use Rattle.recorder.specs.SectionOf.{limitsOf, logChecked, sectionChecked, SectionOutcome, sectionBytes, sectionOf}
-use Rattle.recorder.specs.SectionTurn.{SectionFacts, section-facts}
+use Rattle.recorder.specs.SectionOf.{limitsOf, logChecked, sectionChecked, sectionBytes, sectionOf}
+use Rattle.recorder.specs.SectionTurn.{section-facts}
 use Rattle.recorder.specs.WholeRun.{Box, packed}
 use Rattle.fidelity.specs.Filed.{filedOf}
 use Rattle.fidelity.specs.Follows.{limits, Follows, filed-count}

@@ -1,12 +1,12 @@
 -- One call on the box, by its number: an accepted one leaves what the table says, and a refused one leaves all as it was.
 use mathlib.Core.Bool.{Bool, true, false, cond}
-use mathlib.Core.List.{List, [], _∷_, _++_, append-nil}
-use mathlib.Core.Path.{_≡_, refl, ap, fun-ext, sym, _∙_}
+use mathlib.Core.List.{List, [], _++_, append-nil}
+use mathlib.Core.Path.{_≡_, refl, ap, fun-ext, sym}
 use Prim.Native.Nat.{ℕ, _+_, _≤_, _<_}
 use native.Mathlib.Omega.{arith}
 use borrow.Author.Tests.{eqb-true, eqb-false}
 use lib.Dec.{eqb}
-use lib.ListN.{length, getD, set, take, drop, length-set}
+use lib.ListN.{length, getD, take, drop, length-set}
 use lib.Seq.{take-at, getD-set-same, getD-set-other}
 use Rattle.codec.specs.Decide.{passes, fails, split}
 use Rattle.codec.specs.Store.{store, store-split}
@@ -17,7 +17,7 @@ use Rattle.tracker.specs.declared.State.{State}
 use Rattle.tracker.specs.Accesses.{entryOf as trackedEntry, memoryAfter as trackedMemory}
 use Rattle.tracker.specs.Next.{nextOf}
 use Rattle.tracker.specs.Orderings.{writtenOf}
-use Rattle.recorder.specs.AccessOf.{isWrite, AccessOutcome, accepted, refused, valueAfter, memoryAfter, entryOf as writtenEntry}
+use Rattle.recorder.specs.AccessOf.{isWrite, accepted, refused, valueAfter, memoryAfter, entryOf as writtenEntry}
 use Rattle.recorder.specs.Accepted.{Takes, takes-accepted, number-refused, number-takes}
 use Rattle.recorder.specs.WholeRun.{Call, Box, outcome, called}
 use Rattle.fidelity.specs.Box.{accepts, actOf, entryOf}
