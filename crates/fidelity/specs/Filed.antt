@@ -1,13 +1,18 @@
 -- A history's entries as they stand in a recording: a task's accesses with their orderings, oldest first, without the values read.
 use mathlib.Core.Bool.{cond}
+use mathlib.Core.Path.{_≡_, sym, _∙_}
 use mathlib.Core.List.{List, [], _∷_, _++_}
 use Prim.Native.Nat.{ℕ}
+use native.Mathlib.Omega.{arith}
+use native.Mathlib.Decide.{ℕ-discrete}
+use borrow.Author.Tests.{eq-eqb, ne-eqb}
 use lib.Dec.{eqb}
+use lib.ListN.{length, length-append}
 use Rattle.codec.specs.declared.Op.{Op}
 use Rattle.codec.specs.declared.Op.the-variants.{Read, Write}
 use Rattle.reader.specs.Recording.{Entry as FileEntry}
 use Rattle.history.specs.Entry.{Act, read, write, acquire, Entry}
-use Rattle.history.specs.History.{History}
+use Rattle.history.specs.History.{History, count, count-none, count-own, count-other}
 
 abbrev pub filedOp : Act → Op
 filedOp (read c v) = Read c
@@ -21,3 +26,12 @@ filed e = record { orderings = e .orderings; op = filedOp (e .act) }
 unfoldable pub filedOf : ℕ → History → List FileEntry
 filedOf t [] = []
 filedOf t (e ∷ g) = cond (eqb (e .task) t) (filedOf t g ++ (filed e ∷ [])) (filedOf t g)
+
+-- as many as the task has made
+pub filed-count : (t : ℕ) (h : History) → length (filedOf t h) ≡ count t h
+unfolding filedOf
+filed-count t [] = sym (count-none t)
+filed-count t (e ∷ g) = elim (ℕ-discrete (e .task) t) [
+  | yes p ↦ rw (eq-eqb (e .task) t p, length-append) (omega (arith, filed-count t g, count-own t e g p))
+  | no p ↦ rw (ne-eqb (e .task) t p) (filed-count t g ∙ sym (count-other t e g p))
+]

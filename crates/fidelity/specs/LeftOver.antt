@@ -1,19 +1,17 @@
 -- What is left of a task's accesses once it has done some of them: in the recording's form, oldest first.
-use mathlib.Core.Bool.{Bool, true, false, cond, _&&_}
+use mathlib.Core.Bool.{cond}
 use mathlib.Core.List.{List, [], _∷_, _++_}
 use mathlib.Core.Option.{some, none}
-use mathlib.Core.Path.{_≡_, refl, sym, ap, _∙_}
-use Prim.Native.Nat.{ℕ, zero, suc, _≤_, _<_}
+use mathlib.Core.Path.{_≡_, refl}
+use Prim.Native.Nat.{ℕ, suc, _≤_}
 use native.Mathlib.Omega.{arith}
 use native.Mathlib.Decide.{ℕ-discrete}
 use borrow.Author.Tests.{eq-eqb, ne-eqb, le-leb, lt-leb}
 use lib.Dec.{eqb, leb}
-use lib.ListN.{length, length-append}
 use Rattle.codec.specs.Decide.{passes, fails, split}
 use Rattle.reader.specs.Recording.{Entry as FileEntry}
 use Rattle.history.specs.Entry.{Entry}
-use Rattle.history.specs.History.{History, count, count-none, count-own, count-other, At, here, there, at-lt}
-use Rattle.history.specs.Access.{Access}
+use Rattle.history.specs.History.{History, count, count-own, count-other, At, here, there, at-lt}
 use Rattle.history.specs.Replay.{next}
 use Rattle.history.specs.Ready.{next-access, next-none}
 use Rattle.fidelity.specs.Filed.{filed, filedOf}
@@ -57,11 +55,3 @@ left-at t n {e = e} (there {f = f} {h = h} a) p q = elim (ℕ-discrete (f .task)
 -- the first that is left is the next
 pub left-next : (t n : ℕ) (h : History) (e : Entry) → next t n h ≡ some e → leftOf t n h ≡ filed e ∷ leftOf t (suc n) h
 left-next t n h e p = let a = next-access t n h e p in left-at t n (a .at) (a .own) (omega (arith, a .number))
-
-pub filed-count : (t : ℕ) (h : History) → length (filedOf t h) ≡ count t h
-unfolding filedOf
-filed-count t [] = sym (count-none t)
-filed-count t (e ∷ g) = elim (ℕ-discrete (e .task) t) [
-  | yes p ↦ rw (eq-eqb (e .task) t p, length-append) (omega (arith, filed-count t g, count-own t e g p))
-  | no p ↦ rw (ne-eqb (e .task) t p) (filed-count t g ∙ sym (count-other t e g p))
-]

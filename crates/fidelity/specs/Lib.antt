@@ -3,9 +3,16 @@ pub mod Bench
 pub mod Statement
 pub mod Filed
 pub mod Matches
+pub mod Turn
+pub mod Follows
+pub mod FirstBox
+pub mod Packed
+pub mod BoxMatches
+pub mod BoxReference
 pub mod LeftOver
 pub mod Sim
 pub mod SimStep
 pub mod SimRun
 pub mod SimStart
 pub mod Replayed
+pub mod Theorem

@@ -1,31 +1,30 @@
 -- The replay's side of demand 3: for bytes that record a history, every list of steps, by what is proved of the history's replay.
 use mathlib.Core.Bool.{Bool, true, false}
-use mathlib.Core.List.{List, [], _∷_}
+use mathlib.Core.List.{List}
 use mathlib.Core.Logic.{_↔_}
 use mathlib.Core.Option.{some}
 use mathlib.Core.Path.{_≡_, refl, sym, ap, _∙_, fun-ext}
-use Prim.Native.Nat.{ℕ, zero, suc, _+_, _*_, _≤_, _<_}
+use Prim.Native.Nat.{ℕ, zero, suc, _+_, _≤_, _<_}
 use native.Mathlib.Omega.{arith}
 use native.Mathlib.Decide.{decLt}
 use lib.ListN.{length, getD}
 use Rattle.codec.specs.Decide.{never, passes, fails, split}
 use Rattle.reader.specs.Parse.{Parsed}
-use Rattle.history.specs.Entry.{Act, Entry}
-use Rattle.history.specs.History.{History, count, At}
-use Rattle.history.specs.Access.{Access, access-of, access-unique}
+use Rattle.history.specs.Entry.{Entry}
+use Rattle.history.specs.History.{History}
+use Rattle.history.specs.Access.{Access, access-of}
 use Rattle.history.specs.Memory.{reference}
-use Rattle.history.specs.Replay.{State, Reply, fresh, shown, run, isReady, answer, takes, tally, tallyOf, recordedOrder}
+use Rattle.history.specs.Replay.{State, Reply, fresh, shown, run, answer, tally, recordedOrder}
 use Rattle.history.specs.Ready.{Ready}
 use Rattle.history.specs.Faithful.{after, Faithful, faithful}
 use Rattle.replayer.specs.OpenOf.{openOf}
-use Rattle.replayer.specs.ReadyLaws.{Word, ready-word}
+use Rattle.replayer.specs.ReadyLaws.{ReadySet, ready-word}
 use Rattle.replayer.specs.ReadyOf.{isReady as isReadyBy, readyOf}
-use Rattle.replayer.specs.Sound.{soundOf}
 use Rattle.replayer.specs.Word.{bit, wordOf, hasBit}
-use Rattle.fidelity.specs.Bench.{Bench, benchOf, answerOf, stepped, steppedAll, takes as takesBy, tally as tallyBy, tallyOf as tallyOfBy, AllTaken as AllTakenBy}
+use Rattle.fidelity.specs.Bench.{Bench, benchOf, answerOf, steppedAll, takes as takesBy, tally as tallyBy, tallyOf as tallyOfBy, AllTaken as AllTakenBy}
 use Rattle.fidelity.specs.Matches.{Matches}
 use Rattle.fidelity.specs.Sim.{Sim, sim-ready}
-use Rattle.fidelity.specs.SimStep.{Alike, Played, Holds, sim-step}
+use Rattle.fidelity.specs.SimStep.{Alike, sim-step}
 use Rattle.fidelity.specs.SimRun.{sim-run, tally-same, tally-of-same, all-taken-same}
 use Rattle.fidelity.specs.SimStart.{holds, sim-start}
 use Rattle.fidelity.specs.Statement.{Shows}
@@ -87,7 +86,7 @@ module _ (start : ℕ → ℕ) (h : History) (bytes : List ℕ) (p : Parsed) (m 
       rw d (f, access, w .number, rw v at (w .shows))
 
   -- the bench's run is sound after any steps, so its word is that of the ready tasks
-  word : (steps : List ℕ) → Word (steppedAll bytes first steps .run) bytes
+  word : (steps : List ℕ) → ReadySet (steppedAll bytes first steps .run) bytes
   word steps = ready-word (steppedAll bytes first steps .run) bytes (sim steps .sound)
 
   pub word-sound : (steps : List ℕ) → readyOf (steppedAll bytes first steps .run) bytes .number ≡ 0

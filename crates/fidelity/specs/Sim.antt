@@ -1,42 +1,33 @@
 -- A run over bytes goes as the replay of the history that the bytes record: what the two have in common, kept by every step.
-use mathlib.Core.Bool.{Bool, true, false, cond, _&&_}
+use mathlib.Core.Bool.{Bool, true, false, cond}
 use mathlib.Core.List.{List, [], _∷_}
 use mathlib.Core.Option.{Option, some, none}
-use mathlib.Core.Path.{_≡_, refl, sym, ap, _∙_, subst}
-use Prim.Native.Nat.{ℕ, suc, _+_, _≤_, _<_}
+use mathlib.Core.Path.{_≡_, refl}
+use Prim.Native.Nat.{ℕ, suc, _+_, _<_}
 use native.Mathlib.Omega.{arith}
-use native.Mathlib.Decide.{ℕ-discrete, decLt}
-use borrow.Author.Tests.{eq-eqb, ne-eqb, lt-ltb, le-ltb}
-use lib.Dec.{eqb, leb, ltb}
-use lib.ListN.{length, getD, set}
-use lib.Seq.{getD-set-same, getD-set-other}
-use Rattle.codec.specs.declared.Op.{Op}
+use borrow.Author.Tests.{lt-ltb, le-ltb}
+use lib.ListN.{length, getD}
 use Rattle.codec.specs.declared.Position.{Position}
-use Rattle.codec.specs.Decide.{never}
-use Rattle.reader.specs.EntryCase.{objectOf}
 use Rattle.reader.specs.Bytes.{entryLength}
-use Rattle.reader.specs.Parse.{Parsed}
 use Rattle.reader.specs.Reading.{Reading, read}
 use Rattle.reader.specs.Recording.{Entry as FileEntry}
-use Rattle.history.specs.Entry.{Act, Entry}
+use Rattle.history.specs.Entry.{Entry}
 use Rattle.history.specs.History.{History, count}
 use Rattle.history.specs.Access.{access-bound}
-use Rattle.history.specs.Replay.{State, next, allMet, unheld, isReady, oneMore, perform, shown, step, takes}
+use Rattle.history.specs.Replay.{State, next, allMet, isReady}
 use Rattle.history.specs.Ready.{next-access, next-none}
-use Rattle.replayer.specs.declared.Run.{Run}
 use Rattle.replayer.specs.declared.TaskRun.{TaskRun}
 use Rattle.replayer.specs.declared.next.Next.the-variants.{Open, Held}
 use Rattle.replayer.specs.Left.{Left, left-entry}
 use Rattle.replayer.specs.Met.{allMet as allMetBy}
-use Rattle.replayer.specs.Memory.{performed, valueOf, kindOf}
 use Rattle.replayer.specs.Moved.{Shaped}
 use Rattle.replayer.specs.Next.{entryNext, judged, nextOf, isOpen}
-use Rattle.replayer.specs.ReadyOf.{hasLeft, isReady as isReadyBy}
+use Rattle.replayer.specs.ReadyOf.{isReady as isReadyBy}
 use Rattle.replayer.specs.Run.{taskAt, doneOf}
 use Rattle.replayer.specs.Sound.{soundOf}
 use Rattle.fidelity.specs.Bench.{Bench}
-use Rattle.fidelity.specs.Filed.{filed, filedOp}
-use Rattle.fidelity.specs.LeftOver.{leftOf, left-next, left-none}
+use Rattle.fidelity.specs.Filed.{filed}
+use Rattle.fidelity.specs.LeftOver.{leftOf, left-next}
 
 pub record Sim (h : History) (bytes : List ℕ) (tasks objects : ℕ) (s : State) (b : Bench) : Type 0 where
   pub sound : soundOf (b .run) (length bytes) ≡ true

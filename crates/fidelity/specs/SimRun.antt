@@ -1,13 +1,12 @@
 -- Any list of steps over bytes goes as the history's replay goes: by the same counts, and with the same steps taken.
-use mathlib.Core.Bool.{true, _&&_}
 use mathlib.Core.List.{List, [], _∷_}
-use mathlib.Core.Path.{_≡_, refl, sym, ap, _∙_}
+use mathlib.Core.Path.{_≡_, refl, _∙_}
 use Prim.Native.Nat.{ℕ}
 use Rattle.history.specs.History.{History}
-use Rattle.history.specs.Replay.{State, step, takes, run, tally, tallyOf, AllTaken}
-use Rattle.fidelity.specs.Bench.{Bench, stepped, steppedAll, takes as takesBy, tally as tallyBy, tallyOf as tallyOfBy, AllTaken as AllTakenBy}
+use Rattle.history.specs.Replay.{State, step, run, tally, tallyOf, AllTaken}
+use Rattle.fidelity.specs.Bench.{Bench, stepped, steppedAll, tally as tallyBy, tallyOf as tallyOfBy, AllTaken as AllTakenBy}
 use Rattle.fidelity.specs.Sim.{Sim}
-use Rattle.fidelity.specs.SimStep.{Alike, Holds, sim-step}
+use Rattle.fidelity.specs.SimStep.{Holds, sim-step}
 
 module _ (h : History) (bytes : List ℕ) (tasks objects : ℕ) (holds : Holds h tasks) where
   pub sim-run : (s : State) (b : Bench) → Sim h bytes tasks objects s b → (steps : List ℕ) → Sim h bytes tasks objects (run h s steps) (steppedAll bytes b steps)

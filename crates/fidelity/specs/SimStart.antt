@@ -1,21 +1,18 @@
 -- An accepted replay opening of bytes that record a history stands where the history's replay starts.
-use mathlib.Core.List.{List, []}
+use mathlib.Core.List.{List}
 use mathlib.Core.Path.{_≡_, refl, sym, ap, _∙_}
-use Prim.Native.Nat.{ℕ, _<_}
-use native.Mathlib.Omega.{arith}
-use lib.ListN.{length, getD}
-use Rattle.reader.specs.Parse.{Parsed, parse}
+use Prim.Native.Nat.{ℕ}
+use lib.ListN.{length}
+use Rattle.reader.specs.Parse.{Parsed}
 use Rattle.reader.specs.Reading.{read}
-use Rattle.history.specs.Entry.{Entry}
-use Rattle.history.specs.History.{History, At, count}
+use Rattle.history.specs.History.{History, count}
 use Rattle.history.specs.Replay.{fresh}
-use Rattle.replayer.specs.Left.{Left, LeftWhole, left-opened}
+use Rattle.replayer.specs.Left.{left-opened}
 use Rattle.replayer.specs.OpenLaws.{AtStart, opened-stands, Opens, open-accepts, open-accepted}
-use Rattle.replayer.specs.OpenOf.{OpenOutcome, openedRun, openOf}
-use Rattle.replayer.specs.Run.{taskAt}
-use Rattle.fidelity.specs.Bench.{Bench, benchOf}
-use Rattle.fidelity.specs.Filed.{filedOf}
-use Rattle.fidelity.specs.LeftOver.{leftOf, left-all, filed-count}
+use Rattle.replayer.specs.OpenOf.{openedRun, openOf}
+use Rattle.fidelity.specs.Bench.{benchOf}
+use Rattle.fidelity.specs.Filed.{filed-count}
+use Rattle.fidelity.specs.LeftOver.{left-all}
 use Rattle.fidelity.specs.Matches.{Matches}
 use Rattle.fidelity.specs.Sim.{Sim}
 use Rattle.fidelity.specs.SimStep.{Holds}

@@ -1,37 +1,33 @@
 -- One step over bytes and one step of the history's replay: both are taken or neither, and what they have in common is kept.
-use mathlib.Core.Bool.{Bool, true, false, cond}
-use mathlib.Core.List.{List, [], _∷_}
-use mathlib.Core.Option.{some, none}
-use mathlib.Core.Path.{_≡_, refl, sym, ap, _∙_}
-use Prim.Native.Nat.{ℕ, suc, _+_, _≤_, _<_}
+use mathlib.Core.Bool.{true}
+use mathlib.Core.List.{List, _∷_}
+use mathlib.Core.Option.{some}
+use mathlib.Core.Path.{_≡_, sym, ap, _∙_}
+use Prim.Native.Nat.{ℕ, suc, _+_, _<_}
 use native.Mathlib.Omega.{arith}
-use native.Mathlib.Decide.{ℕ-discrete, decLt}
+use native.Mathlib.Decide.{ℕ-discrete}
 use borrow.Author.Tests.{eq-eqb, ne-eqb, eqb-true}
-use lib.Dec.{eqb}
-use lib.ListN.{length, getD, set}
+use lib.ListN.{length, getD}
 use lib.Seq.{getD-set-same, getD-set-other}
 use Rattle.codec.specs.declared.Op.{Op}
 use Rattle.codec.specs.Decide.{never}
-use Rattle.reader.specs.EntryCase.{objectOf}
+use Rattle.reader.specs.Object.{objectOf}
 use Rattle.reader.specs.Bytes.{entryLength}
 use Rattle.reader.specs.Reading.{read}
 use Rattle.reader.specs.Recording.{Entry as FileEntry}
 use Rattle.history.specs.Entry.{Act, Entry}
 use Rattle.history.specs.History.{History, count, At}
 use Rattle.history.specs.Access.{Access}
-use Rattle.history.specs.Replay.{State, Reply, next, isReady, oneMore, perform, shown, step, answer, takes}
-use Rattle.history.specs.Ready.{Ready, access-next}
-use Rattle.history.specs.Step.{Taken, Refused, Goes, taken, refused, step-goes}
-use Rattle.replayer.specs.declared.Run.{Run}
+use Rattle.history.specs.Replay.{State, next, isReady, oneMore, perform, shown, step, answer, takes}
+use Rattle.history.specs.Ready.{access-next}
+use Rattle.history.specs.Step.{Taken, Refused, taken, refused, step-goes}
 use Rattle.replayer.specs.declared.TaskRun.{TaskRun}
 use Rattle.replayer.specs.declared.Stepped.{Stepped}
 use Rattle.replayer.specs.Left.{Left, left-entry, left-own, left-other}
 use Rattle.replayer.specs.Memory.{performed, valueOf, kindOf}
 use Rattle.replayer.specs.Moved.{moved-own, moved-other}
-use Rattle.replayer.specs.Next.{entryNext}
 use Rattle.replayer.specs.Run.{taskAt, doneOf, movedOf}
-use Rattle.replayer.specs.StepLaws.{Taken as TakenBy, Turned, Goes as GoesBy, taken as takenBy, turned, step-goes as step-goes-by, step-keeps}
-use Rattle.replayer.specs.StepOf.{stepOf}
+use Rattle.replayer.specs.StepLaws.{Taken as TakenBy, Turned, taken as takenBy, turned, step-goes as step-goes-by, step-keeps}
 use Rattle.fidelity.specs.Bench.{Bench, answerOf, stepped, takes as takesBy}
 use Rattle.fidelity.specs.Filed.{filed, filedOp}
 use Rattle.fidelity.specs.LeftOver.{leftOf, left-next}

@@ -1,0 +1,56 @@
+-- DEMAND 3, proved: whatever calls were made and whatever steps are asked for, the replay is faithful. And what the statement
+-- assumes can be had: with output and memory enough no section and no replay opening is turned away.
+use mathlib.Core.List.{List}
+use mathlib.Core.Path.{_≡_, sym, _∙_}
+use Prim.Native.Nat.{ℕ, _+_, _≤_, _<_}
+use lib.ListN.{length}
+use lib.Seq.{ext-getD}
+use Rattle.reader.specs.Calls.{checkedOf}
+use Rattle.replayer.specs.OpenLaws.{open-accepts}
+use Rattle.fidelity.specs.Bench.{tally, benchOf}
+use Rattle.fidelity.specs.Box.{Opening, openedBy, Asked, lastBox, recorded, recordingOf}
+use Rattle.fidelity.specs.BoxMatches.{parsedBy, owner-each, box-memory, memory-each, sections-accepted, recording-parsed, box-matches}
+use Rattle.fidelity.specs.BoxReference.{answers-reference, memory-reference}
+use Rattle.fidelity.specs.FirstBox.{startOf}
+use Rattle.fidelity.specs.Matches.{Matches}
+use Rattle.fidelity.specs.Replayed.{taken-when-ready, answers-recorded, word-sound, word-ready, never-more, stops-at-end, end-memory, memory-entries, recorded-order}
+use Rattle.fidelity.specs.Statement.{Accepted, after, Faithful}
+
+module _ (o : Opening) (asked : List Asked) (outs : ℕ → List ℕ) (memory : List ℕ) (a : Accepted o asked outs memory) where
+  matches : Matches (startOf o) (recorded o asked) (recordingOf o asked outs) (parsedBy o asked)
+  matches = box-matches o (a .opened) asked outs (a .packed)
+
+  -- equal value by value, and as long: equal
+  ends-equal : (steps : List ℕ) → tally (recordingOf o asked outs) (benchOf (recordingOf o asked outs) memory) steps ≡ length (recorded o asked)
+      → after o asked outs memory steps .memory ≡ lastBox o asked .memory
+  ends-equal steps e =
+      let n = memory-entries (startOf o) (recorded o asked) (recordingOf o asked outs) (parsedBy o asked) matches memory (a .replayed) steps in
+      ext-getD 0 (after o asked outs memory steps .memory) (lastBox o asked .memory) (n ∙ owner-each o (a .opened) ∙ sym (memory-each o (a .opened) asked))
+      (λ c l. end-memory (startOf o) (recorded o asked) (recordingOf o asked outs) (parsedBy o asked) matches memory (a .replayed) steps e c (rw n at l)
+      ∙ sym (box-memory o (a .opened) asked c))
+
+  pub demand-3 : Faithful o asked outs memory
+  unfolding checkedOf
+  demand-3 = record {
+    answers-reference = answers-reference o (a .opened) asked;
+    memory-reference = memory-reference o (a .opened) asked;
+    reader-takes = rw (recording-parsed o (a .opened) asked outs (a .packed));
+    taken-when-ready = taken-when-ready (startOf o) (recorded o asked) (recordingOf o asked outs) (parsedBy o asked) matches memory (a .replayed);
+    answers-recorded = answers-recorded (startOf o) (recorded o asked) (recordingOf o asked outs) (parsedBy o asked) matches memory (a .replayed);
+    word-sound = word-sound (startOf o) (recorded o asked) (recordingOf o asked outs) (parsedBy o asked) matches memory (a .replayed);
+    word-ready = word-ready (startOf o) (recorded o asked) (recordingOf o asked outs) (parsedBy o asked) matches memory (a .replayed);
+    never-more = never-more (startOf o) (recorded o asked) (recordingOf o asked outs) (parsedBy o asked) matches memory (a .replayed);
+    stops-at-end = stops-at-end (startOf o) (recorded o asked) (recordingOf o asked outs) (parsedBy o asked) matches memory (a .replayed);
+    end-memory = ends-equal;
+    recorded-order = recorded-order (startOf o) (recorded o asked) (recordingOf o asked outs) (parsedBy o asked) matches memory (a .replayed);
+  }
+
+-- with outputs that hold the logs behind their section records, and a memory of N entries, everything is accepted
+pub acceptance : (o : Opening) (asked : List Asked) (outs : ℕ → List ℕ) (memory : List ℕ) → openedBy o .answer .number ≡ 0
+    → ((t : ℕ) → t < o .tasks → 12 + length (lastBox o asked .logs t) ≤ length (outs t)) → length memory ≡ o .objects → Accepted o asked outs memory
+acceptance o asked outs memory z room each = record {
+  opened = z;
+  packed = λ t l. sections-accepted o z asked t l (outs t) (room t l);
+  replayed = rw (open-accepts (recordingOf o asked outs) memory (parsedBy o asked)
+      (recording-parsed o z asked outs (λ t l. sections-accepted o z asked t l (outs t) (room t l))) (each ∙ sym (owner-each o z)));
+}
