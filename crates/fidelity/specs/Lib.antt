@@ -16,3 +16,4 @@ pub mod SimRun
 pub mod SimStart
 pub mod Replayed
 pub mod Theorem
+pub mod RunA

@@ -17,7 +17,7 @@ use tracker::Locality;
 use tracker::ObjectRecord;
 
 // Each owner is below T.
-pub fn owners_below(owners: &[u8], tasks: usize) -> bool
+pub(crate) fn owners_below(owners: &[u8], tasks: usize) -> bool
     ensures { λ r. ⌜ r ≡ allBelow tasks (now (owners .entry)) ⌝ }
 {
     for i in 0..owners.len() {
@@ -52,7 +52,7 @@ fn entries_ok(objects: usize, owners: usize, starts: usize, memory: usize) -> bo
 }
 
 // The number of an opening: 1, 2, 3, 4, 9, in this order.
-pub fn open_number(
+pub(crate) fn open_number(
     tasks: usize,
     objects: usize,
     owners: &[u8],
@@ -81,7 +81,7 @@ pub fn open_number(
 }
 
 // Each object write-exclusive of its owner.
-pub fn owned_records(owners: &[u8]) -> [ObjectRecord; 256]
+pub(crate) fn owned_records(owners: &[u8]) -> [ObjectRecord; 256]
     requires { ⌜ length (now owners) ≤ 256 ⌝ }
     ensures { λ r. ⌜ r ≡ ownedRecords (now (owners .entry)) (length (now (owners .entry))) ⌝ }
 {
@@ -97,7 +97,7 @@ pub fn owned_records(owners: &[u8]) -> [ObjectRecord; 256]
 }
 
 // The lent memory set to the starting values.
-pub fn set_memory(memory: &mut [u32], starts: &[u32])
+pub(crate) fn set_memory(memory: &mut [u32], starts: &[u32])
     requires { ⌜ length (now memory) ≡ length (now starts) ⌝ }
     ensures { λ r. ⌜ now (memory .exit) ≡ now (starts .entry) ⌝ }
 {
