@@ -32,7 +32,7 @@ abbrev pub Left : Run → List ℕ → ℕ → List Entry → Type 0
 Left r b t es = LeftOf (limitsOf r t) (taskAt (r .runs) t) b es
 
 -- a body that begins with an entry: the entry is read first, and the rest behind it
-pub record First (m : Limits) (x : TaskRun) (b : List ℕ) (e : Entry) (es : List Entry) : Type 0 where
+record First (m : Limits) (x : TaskRun) (b : List ℕ) (e : Entry) (es : List Entry) : Type 0 where
   pub entry : entryOf m (stop inBody (x .place)) (x .place) (part (x .place) (x .end) b) ≡ read e
   pub rest : LeftOf m (advanced x (x .place + entryLength e)) b es
 

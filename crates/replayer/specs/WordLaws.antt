@@ -33,7 +33,7 @@ word-odd : (f : ℕ → Bool) (i n : ℕ) → wordOf f i (suc n) % 2 ≡ bit (f 
 unfolding wordOf
 word-odd f i n = omega (arith, bit-low (f i))
 
-pub word-fits : (f : ℕ → Bool) (i n : ℕ) → wordOf f i n < 2 ^ n
+word-fits : (f : ℕ → Bool) (i n : ℕ) → wordOf f i n < 2 ^ n
 unfolding wordOf
 word-fits f i zero = omega arith
 word-fits f i (suc n) = rw pow-suc (omega (arith, word-fits f (suc i) n, bit-low (f i)))
@@ -115,7 +115,7 @@ count-zeros w h = ap (trailingZeros 16) (sym (word-self w 16 h)) ∙ word-zeros 
 
 -- of a ready word they are the count of the ready set and its lowest
 module _ (f : ℕ → Bool) (n : ℕ) (h : n ≤ 16) where
-  pub word-small : wordOf f 0 n < 2 ^ 16
+  word-small : wordOf f 0 n < 2 ^ 16
   word-small = omega (arith, word-fits f 0 n, pow-mono {i = n} {j = 16} h)
 
   pub word-count : readyCount (wordOf f 0 n) ≡ countOf f 0 n
