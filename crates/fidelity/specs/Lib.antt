@@ -16,4 +16,3 @@ pub mod SimRun
 pub mod SimStart
 pub mod Replayed
 pub mod Theorem
-pub mod RunA

@@ -19,7 +19,6 @@ pub mod Range
 pub mod Reading
 pub mod Recording
 pub mod Roundtrip
-pub mod Runs
 pub mod Section
 pub mod SectionTurn
 pub mod Standing

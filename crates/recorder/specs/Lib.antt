@@ -6,6 +6,5 @@ pub mod AccessTurn
 pub mod SectionOf
 pub mod SectionTurn
 pub mod WholeRun
-pub mod Runs
 pub mod Accepted
 pub mod Full

@@ -12,7 +12,6 @@ pub mod OpenTurn
 pub mod ReadyLaws
 pub mod ReadyOf
 pub mod Run
-pub mod Runs
 pub mod Sound
 pub mod StepLaws
 pub mod StepOf

@@ -26,4 +26,3 @@ pub mod Accesses
 pub mod ReferenceMemory
 pub mod OneAccess
 pub mod Tracks
-pub mod Runs

@@ -61,7 +61,7 @@ bytes = recordingOf opening calls (λ t. replicate 50 0)
 abbrev bench : List ℕ → Bench
 bench steps = steppedAll bytes (benchOf bytes (3 ∷ 3 ∷ [])) steps
 
-pub record RunA : Type 0 where
+pub record Whole : Type 0 where
   pub size : lib.ListN.length bytes ≡ 98
   pub first-word : readyOf (bench [] .run) bytes .word ≡ 1
   pub second-word : readyOf (bench (0 ∷ []) .run) bytes .word ≡ 2
@@ -71,6 +71,6 @@ pub record RunA : Type 0 where
   pub end-memory : bench (0 ∷ 1 ∷ 0 ∷ 1 ∷ []) .memory ≡ 9 ∷ 0 ∷ []
   pub end-taken : tallySteps bytes (bench []) (0 ∷ 1 ∷ 0 ∷ 1 ∷ []) ≡ 4
 
-pub run-a : RunA
+pub whole : Whole
 unfolding openOf opened openNumber entriesOk allBelow openedState ownedRecords outcome called calledAll packed accessOf accessNumber checked accepted refused soundOf lastSound taskSound tasksSound objectSound sumOf isWithin allBelow-tracker-range rowOf orderingsOf everyDone written leftOut nextOf localityAfter effectOf classOf store orderingsBytes entryBytes ordering access start startTwo le2 le4 head cell cells section sectionOf sectionChecked logChecked walkOf judged tally bodyOf bodyFrom entryOf entryFrom onRecord accessOf-reader-entry accessOk orderingOk recordOf headOf sectionOf-codec-decode bodyOf-codec-decode field2 field4 checkedOf parse headAt onHead sectionsAfter sectionsOf sectionAt onSection sectionBody taken ownersOf valuesOf sizesOk bodyBytes sectionsBytes bytesOf part allFrom within taskSound-replayer-sound soundOf-replayer-sound allMet movedOf entryNext judged-replayer-next nextOf-replayer-next wordOf isReady readyOf startsOf onParse openOf-replayer-openof barredOf onNext stepOf recordedFrom steppedAll tallySteps
-run-a = record { size = refl; first-word = refl; second-word = refl; held = refl; end-word = refl; end-memory = refl; end-taken = refl }
+whole = record { size = refl; first-word = refl; second-word = refl; held = refl; end-word = refl; end-memory = refl; end-taken = refl }

@@ -55,7 +55,7 @@ recording-a = opening 2 .out ++ packed (box-a .state) (box-a .logs) (λ t. repli
 abbrev row-one : ℕ → Box → ℕ
 row-one n b = outcome b (record { task = 0; object = 0; sort = 1; value = 7; out = replicate n 0 }) .answer .number
 
-pub record Runs : Type 0 where
+pub record Calls : Type 0 where
   -- run A: bodies 24 and 32 bytes, recording 98, which the reader takes; memory 9 and 0
   pub a-body-0 : length (box-a .logs 0) ≡ 24
   pub a-body-1 : length (box-a .logs 1) ≡ 32
@@ -71,9 +71,9 @@ pub record Runs : Type 0 where
   pub nine-bytes : row-one 9 (opened-box 2) ≡ 9
   pub ten-bytes : row-one 10 (opened-box 2) ≡ 0
 
-pub runs : Runs
+pub calls : Calls
 unfolding openOf opened openNumber entriesOk allBelow openedState ownedRecords outcome called calledAll packed accessOf accessNumber checked accepted refused soundOf lastSound taskSound tasksSound objectSound sumOf isWithin allPass rowOf orderingsOf everyDone written leftOut nextOf localityAfter effectOf classOf store orderingsBytes entryBytes ordering access start startTwo le2 le4 head cell cells section sectionOf sectionChecked logChecked walkOf judged tally bodyOf bodyFrom readEntry entryFrom onRecord accessRecordOf accessOk orderingOk recordOf headOf sectionRecordOf fieldsOf field2 field4 checkedOf parse headAt onHead sectionsAfter sectionsOf sectionAt onSection sectionBody taken ownersOf valuesOf sizesOk
-runs = record {
+calls = record {
   a-body-0 = refl;
   a-body-1 = refl;
   a-recording = refl;

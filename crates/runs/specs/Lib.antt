@@ -1,0 +1,5 @@
+pub mod Rows
+pub mod Calls
+pub mod Bytes
+pub mod Whole
+pub mod Table

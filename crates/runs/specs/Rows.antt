@@ -1,0 +1,53 @@
+-- Runs on the bench that concern rows and orderings (document 01, "Runs on the bench", marked P), computed from the table.
+use mathlib.Core.Bool.{true, false}
+use mathlib.Core.List.{List, [], _∷_}
+use mathlib.Core.Path.{_≡_, refl}
+use Prim.Native.Nat.{ℕ}
+use Rattle.codec.specs.declared.Position.{Position}
+use Rattle.tracker.specs.State.{position}
+use Rattle.tracker.specs.Row.{rowOf, rowAt, numberOf}
+use Rattle.tracker.specs.Orderings.{everyDone, orderingsOf, leftOut, written, writtenOf}
+use Rattle.tracker.specs.Next.{localityAfter, effectOf, nextOf}
+use Rattle.tracker.specs.Opened.{ownedRecords, openedState}
+use Rattle.tracker.specs.Accesses.{Access}
+use Rattle.tracker.specs.declared.State.{State}
+
+abbrev pub reads : ℕ → ℕ → Access
+reads task object = record { task = task; object = object; write = false; value = 0 }
+
+abbrev pub writes : ℕ → ℕ → ℕ → Access
+writes task object value = record { task = task; object = object; write = true; value = value }
+
+-- an access's row, and the orderings that it writes
+pub record Tracked : Type 0 where
+  pub row : ℕ
+  pub orderings : List Position
+
+abbrev pub tracked : ℕ → List Position → Tracked
+tracked row orderings = record { row = row; orderings = orderings }
+
+-- the accesses in turn, each from the state that the one before it left
+unfoldable pub trackedAll : State → List Access → List Tracked
+trackedAll s [] = []
+trackedAll s (a ∷ rest) =
+    tracked (numberOf (rowAt s (a .task) (a .object) (a .write))) (writtenOf s (a .task) (a .object) (a .write))
+    ∷ trackedAll (nextOf s (a .task) (a .object) (a .write)) rest
+
+-- two objects, both owned by task 0
+abbrev pub opened : ℕ → State
+opened tasks = openedState tasks 2 (0 ∷ 0 ∷ [])
+
+pub record Rows : Type 0 where
+  -- run A
+  pub a : trackedAll (opened 2) (writes 0 0 7 ∷ reads 1 0 ∷ reads 0 0 ∷ writes 1 0 9 ∷ [])
+      ≡ tracked 1 [] ∷ tracked 8 (position 0 1 ∷ []) ∷ tracked 5 (position 1 1 ∷ []) ∷ tracked 10 (position 0 2 ∷ []) ∷ []
+  -- A's first three with T = 3, then task 2 reads object 0 twice
+  pub fence : trackedAll (opened 3) (writes 0 0 7 ∷ reads 1 0 ∷ reads 0 0 ∷ reads 2 0 ∷ reads 2 0 ∷ [])
+      ≡ tracked 1 [] ∷ tracked 8 (position 0 1 ∷ []) ∷ tracked 5 (position 1 1 ∷ []) ∷ tracked 6 (position 0 2 ∷ []) ∷ tracked 3 [] ∷ []
+  -- T = 4: task 3 comes to the second share by way of Last, and so to the first
+  pub four : trackedAll (opened 4) (reads 1 0 ∷ reads 2 0 ∷ reads 1 1 ∷ reads 3 1 ∷ reads 3 0 ∷ [])
+      ≡ tracked 8 [] ∷ tracked 5 (position 1 1 ∷ []) ∷ tracked 8 [] ∷ tracked 5 (position 1 2 ∷ position 2 1 ∷ []) ∷ tracked 3 [] ∷ []
+
+pub rows : Rows
+unfolding trackedAll openedState ownedRecords rowOf orderingsOf everyDone written leftOut nextOf localityAfter effectOf
+rows = record { a = refl; fence = refl; four = refl }
