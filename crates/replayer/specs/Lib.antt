@@ -1,4 +1,5 @@
 pub mod All
+pub mod InPlace
 pub mod Left
 pub mod Memory
 pub mod Met
