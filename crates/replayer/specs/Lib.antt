@@ -1,4 +1,6 @@
 pub mod All
+pub mod Finish
+pub mod FinishLaws
 pub mod InPlace
 pub mod Left
 pub mod Memory
