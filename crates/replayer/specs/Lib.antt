@@ -1,3 +1,5 @@
+pub mod Alike
+pub mod AlikeTurn
 pub mod All
 pub mod Finish
 pub mod FinishLaws
