@@ -79,7 +79,12 @@ fn alike(x: Played, y: Played, memory: bool) -> bool
 }
 
 // Both byte strings and both lengths are tested before either memory is set.
-pub fn same_outcome(first: &[u8], second: &[u8], first_memory: &mut [u32], second_memory: &mut [u32]) -> Compared
+pub fn same_outcome(
+    first: &[u8],
+    second: &[u8],
+    first_memory: &mut [u32],
+    second_memory: &mut [u32],
+) -> Compared
     ensures { λ r. ⌜ r ≡ sameOutcomeOf (now (first .entry)) (now (second .entry)) (now («first_memory» .entry)) (now («second_memory» .entry)) .answer ⌝ }
     ensures { λ r. ⌜ now («first_memory» .exit) ≡ sameOutcomeOf (now (first .entry)) (now (second .entry)) (now («first_memory» .entry)) (now («second_memory» .entry)) .first ⌝ }
     ensures { λ r. ⌜ now («second_memory» .exit) ≡ sameOutcomeOf (now (first .entry)) (now (second .entry)) (now («first_memory» .entry)) (now («second_memory» .entry)) .second ⌝ }

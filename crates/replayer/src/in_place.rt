@@ -36,7 +36,7 @@ pub fn step_in_place(run: &mut Run, bytes: &[u8], memory: &mut [u32], task: usiz
         (r ≡ shownOf (stepOf (now (run .entry)) (now (bytes .entry)) (now (memory .entry)) task .answer))
         × (now (run .exit) ≡ stepOf (now (run .entry)) (now (bytes .entry)) (now (memory .entry)) task .answer .run)
         × (now (memory .exit) ≡ stepOf (now (run .entry)) (now (bytes .entry)) (now (memory .entry)) task .memory)
-    ⌝ }
+        ⌝ }
 {
     let s = step(*run, bytes, memory, task);
     *run = s.run;

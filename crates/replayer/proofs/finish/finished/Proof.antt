@@ -45,8 +45,7 @@ loop-less c = search needs
 loop-again : tie.Need-loop-again Inv-loop μ-loop
 loop-again c =
     let a = c .before .before .before .before .before .before .args in
-    let l = c .before .before .before .before .loop in
-    (
+    let l = c .before .before .before .before .loop in (
       omega arith,
       sym (all-on (isDone (a .t1)) (l .t) (c .before .before .before .before .before .tasks-in .result) (c .before .before .before .loop-test .taken) (rw (le-ltb _ _ (c .if1 .left)))) ∙ l .inv .1,
     )
