@@ -1,4 +1,9 @@
+pub mod Alike
+pub mod AlikeTurn
 pub mod All
+pub mod Finish
+pub mod FinishLaws
+pub mod InPlace
 pub mod Left
 pub mod Memory
 pub mod Met

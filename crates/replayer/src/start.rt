@@ -4,13 +4,15 @@ ghost use Prim.Native.Nat.{_≤_};
 ghost use lib.ListN.{length, drop};
 ghost use Rattle.codec.specs.Kind.{headLength};
 ghost use Rattle.reader.specs.Parse.{valuesOf};
-ghost use Rattle.replayer.specs.OpenOf.{startsOf, refusedOpen};
+ghost use Rattle.replayer.specs.OpenOf.{startsOf, refusedOpen, openOf};
+ghost use Rattle.replayer.specs.OpenTurn.{Opening};
 ghost use Rattle.replayer.specs.Run.{blankTasks};
 use crate::Opened;
 use crate::Run;
 use crate::TaskRun;
 use codec::field::get32;
 use reader::Span;
+use reader::survey::Layout;
 
 // A value for each entry, from the head: it stands behind the owner's byte.
 pub(crate) fn set_values(bytes: &[u8], memory: &mut [u32])
@@ -53,6 +55,22 @@ pub(crate) fn starts(spans: [Span; 16], tasks: usize) -> [TaskRun; 16]
         runs[t] = x;
     }
     runs
+}
+
+// The opening of bytes that were surveyed, with a memory of N entries.
+pub(crate) fn begin(bytes: &[u8], l: Layout, memory: &mut [u32]) -> Run
+    requires { ⌜ Opening (now bytes) (now memory) l ⌝ }
+    ensures { λ r. ⌜ r ≡ openOf (now (bytes .entry)) (now (memory .entry)) .answer .run ⌝ }
+    ensures { λ r. ⌜ now (memory .exit) ≡ openOf (now (bytes .entry)) (now (memory .entry)) .memory ⌝ }
+{
+    set_values(bytes, memory);
+    let spans = l.spans;
+    let runs = starts(spans, l.tasks);
+    Run {
+        tasks: l.tasks,
+        objects: l.objects,
+        runs,
+    }
 }
 
 // A refused opening: the blank run.

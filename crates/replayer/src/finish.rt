@@ -1,0 +1,61 @@
+// A run played on, the lowest ready task first, until no task is ready; and whether a run has finished.
+ghost use mathlib.Core.Path.{_≡_};
+ghost use Prim.Native.Nat.{_<_};
+ghost use Rattle.replayer.specs.Finish.{leftOver, finishOf, shownPlay, tasksIn, finishedOf};
+ghost use Rattle.replayer.specs.FinishLaws.{Playing};
+use crate::Run;
+use crate::lowest_ready;
+use crate::ready;
+use crate::step;
+
+// Where a run ended or stuck, and the steps that it took.
+pub struct Played {
+    pub run: Run,
+    pub steps: usize,
+}
+
+// Each step leaves one access fewer, so the loop ends and the count of steps fits.
+pub(crate) fn finish(run: Run, bytes: &[u8], memory: &mut [u32]) -> Played
+    requires { ⌜ Playing (now bytes) (record { run = run; memory = now memory; steps = 0 }) ⌝ }
+    requires { ⌜ leftOver run < 18446744073709551616 ⌝ }
+    ensures { λ r. ⌜ r ≡ shownPlay (finishOf (now (bytes .entry)) (record { run = run; memory = now (memory .entry); steps = 0 })) ⌝ }
+    ensures { λ r. ⌜ now (memory .exit) ≡ finishOf (now (bytes .entry)) (record { run = run; memory = now (memory .entry); steps = 0 }) .memory ⌝ }
+{
+    let mut at = run;
+    let mut steps: usize = 0;
+    loop {
+        let w = ready(at, bytes);
+        let word = w.word;
+        if word == 0 {
+            return Played { run: at, steps };
+        }
+        let task = lowest_ready(word) as usize;
+        let s = step(at, bytes, memory, task);
+        at = s.run;
+        steps += 1;
+    }
+}
+
+// The tasks below T that a run has; a run that is not sound may name more.
+fn tasks_in(tasks: usize) -> usize
+    ensures { λ r. ⌜ r ≡ tasksIn tasks ⌝ }
+{
+    if tasks < 16 {
+        return tasks;
+    }
+    16
+}
+
+// Whether no task has accesses left.
+pub fn finished(run: Run) -> bool
+    ensures { λ r. ⌜ r ≡ finishedOf run ⌝ }
+{
+    let tasks = tasks_in(run.tasks);
+    for t in 0..tasks {
+        let x = run.runs[t];
+        if x.done < x.count {
+            return false;
+        }
+    }
+    true
+}
