@@ -1,4 +1,4 @@
--- When a run has ended: no task below T has accesses left.
+-- When a run has ended: no task below T has accesses left. A run has 16 tasks, T or not.
 use mathlib.Core.Bool.{Bool, _||_}
 use Prim.Native.Nat.{ℕ}
 use lib.Dec.{leb}

@@ -3,3 +3,4 @@ pub mod Decimal
 pub mod Finished
 pub mod Lines
 pub mod Objects
+pub mod Played

@@ -3,6 +3,7 @@ ghost use mathlib.Core.Path.{_≡_};
 ghost use Prim.Native.Nat.{_≤_};
 ghost use lib.ListN.{length};
 ghost use Rattle.replay.specs.Finished.{isOver, finishedOf};
+ghost use Rattle.replay.specs.Played.{LowestFirst};
 use crate::lines::put_end;
 use crate::lines::put_refusal;
 use crate::lines::put_step;
@@ -42,9 +43,18 @@ fn finished(run: Run) -> bool
     true
 }
 
-// Steps until no task is ready. A step uses up at least a record, so the bytes are budget enough.
-fn play(bytes: &[u8], start: Run, memory: &mut [u32], out: &mut [u8])
-    requires { ⌜ (length (now memory) ≤ 256) × (65536 ≤ length (now out)) ⌝ }
+// What the steps left: the run, how many they were, and the place behind what is still to be written.
+struct Played {
+    run: Run,
+    steps: usize,
+    at: usize,
+}
+
+// Steps the lowest ready task until none is ready. A step uses up at least a record, so the bytes are budget enough.
+fn play(bytes: &[u8], start: Run, memory: &mut [u32], out: &mut [u8]) -> Played
+    requires { ⌜ 65536 ≤ length (now out) ⌝ }
+    ensures { λ r. ⌜ LowestFirst (now (bytes .entry)) start (now (memory .entry)) (r .run) (now (memory .exit)) (r .steps) ⌝ }
+    ensures { λ r. ⌜ r .at ≤ 60000 ⌝ }
 {
     let mut run = start;
     let mut at = 0;
@@ -62,9 +72,18 @@ fn play(bytes: &[u8], start: Run, memory: &mut [u32], out: &mut [u8])
         run = after;
         steps += 1;
     }
-    at = put_end(out, at, finished(run), steps);
-    at = put_values(out, at, memory);
-    io::write_all(1, &out[..at]);
+    Played { run, steps, at }
+}
+
+// A line a step, then how it ended, then the memory.
+fn tell(bytes: &[u8], start: Run, memory: &mut [u32], out: &mut [u8])
+    requires { ⌜ (length (now memory) ≤ 256) × (65536 ≤ length (now out)) ⌝ }
+{
+    let p = play(bytes, start, memory, out);
+    let run = p.run;
+    let end = put_end(out, p.at, finished(run), p.steps);
+    let all = put_values(out, end, memory);
+    io::write_all(1, &out[..all]);
 }
 
 fn refuse(out: &mut [u8], number: u32, offset: usize)
@@ -88,7 +107,7 @@ fn replay(bytes: &[u8]) {
     let memory = &mut values[..objects];
     let o = open(bytes, memory);
     let run = o.run;
-    play(bytes, run, memory, out);
+    tell(bytes, run, memory, out);
 }
 
 // One byte more than a recording may have, to notice a longer one.

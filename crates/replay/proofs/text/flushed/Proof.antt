@@ -1,5 +1,4 @@
 use mathlib.Core.Path.{sym}
-use denote.Ref.{now}
 use native.Mathlib.Omega.{arith}
 use lib.Seq.{length-take-le}
 use borrow.Author.Needs.{needs}

@@ -1,6 +1,6 @@
-use mathlib.Core.Path.{_≡_, _∙_}
+use mathlib.Core.Path.{_∙_}
 use native.Mathlib.Omega.{arith}
-use Rattle.replay.specs.Decimal.{decimalOf, decimal-so, decimal-short}
+use Rattle.replay.specs.Decimal.{decimal-so, decimal-short}
 use borrow.Author.Needs.{needs}
 use Rattle.replay.proofs.text.put_number.Statement.{statement}
 use Rattle.replay.proofs.text.put_number.Tie as tie
