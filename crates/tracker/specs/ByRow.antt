@@ -3,14 +3,16 @@ use mathlib.Core.Bool.{Bool}
 use mathlib.Core.Path.{_≡_, refl, _∙_}
 use Prim.Native.Nat.{ℕ, _+_}
 use Rattle.codec.specs.declared.Position.{Position}
-use Rattle.tracker.specs.State.{seenOf, tookOf, doneAt, tookAt, holderOf, localityOf, nowhere, position}
-use Rattle.tracker.specs.Row.{rowAt}
-use Rattle.tracker.specs.Plan.{planned, planOf, fewOf}
+use Rattle.tracker.specs.State.{seenOf, tookOf, doneAt, tookAt, holderOf, nowhere, position}
+use Rattle.tracker.specs.Row.{rowOf}
+use Rattle.tracker.specs.Plan.{planned, planFor, fewOf}
 use Rattle.tracker.specs.Orderings.{orderingsOf}
 use Rattle.tracker.specs.Next.{localityAfter, effectOf, numberNow, fenceSeen}
 use Rattle.tracker.specs.declared.advance.Entries.{Entries}
+use Rattle.tracker.specs.Marks.{stateOf}
 use Rattle.tracker.specs.declared.Locality.{Locality}
 use Rattle.tracker.specs.declared.Locality.the-variants.{WriteExclusive, ReadExclusive, ReadShared}
+use Rattle.tracker.specs.declared.Marks.{Marks}
 use Rattle.tracker.specs.declared.Plan.{Plan}
 use Rattle.tracker.specs.declared.Row.{Row}
 use Rattle.tracker.specs.declared.Row.the-variants.{One, Two, Three, Four, Five, Six, Seven, Eight, Nine, Ten}
@@ -102,9 +104,9 @@ plan-table Eight s task l = refl
 plan-table Nine s task l = refl
 plan-table Ten s task l = refl
 
-pub plan-decided : (s : State) (task object : ℕ) (write : Bool) (row : Row) (holder : ℕ) (p : Plan) →
-    row ≡ rowAt s task object write → holder ≡ holderOf (localityOf s object) →
-    p ≡ planBy row (localityOf s object) (entriesOf s task) (doneAt s holder) (tookAt s holder) → p ≡ planOf s task object write
-unfolding planOf
-plan-decided s task object write row holder p e h q =
-    q ∙ rw (e, h) (plan-table (rowAt s task object write) s task (localityOf s object))
+pub plan-decided : (m : Marks) (l : Locality) (task : ℕ) (write : Bool) (row : Row) (holder : ℕ) (p : Plan) →
+    row ≡ rowOf l task (seenOf (stateOf m) task) write → holder ≡ holderOf l →
+    p ≡ planBy row l (entriesOf (stateOf m) task) (doneAt (stateOf m) holder) (tookAt (stateOf m) holder) → p ≡ planFor m l task write
+unfolding planFor
+plan-decided m l task write row holder p e h q =
+    q ∙ rw (e, h) (plan-table (rowOf l task (seenOf (stateOf m) task) write) (stateOf m) task l)

@@ -12,6 +12,7 @@ use Rattle.tracker.specs.State.{doneOf, seenOf, localityOf, owned, Shape
 use Rattle.tracker.specs.Row.{rowAt}
 use Rattle.tracker.specs.View.{View, one, two, three, four, five, six, seven, eight, nine, ten, view}
 use Rattle.tracker.specs.Next.{localityAfter, Effect, unchanged, effectOf, numberNow, stepped, nextOf}
+use Rattle.tracker.specs.Marks.{marksOf}
 use Rattle.tracker.specs.Plan.{Admits}
 use Rattle.tracker.specs.Sum.{sumOf, sum-rises, sum-bound}
 use Rattle.tracker.specs.Sound.{soundOf}
@@ -29,10 +30,9 @@ pub record Accepts (s : State) (task object : ℕ) : Type 0 where
   pub more : doneOf s task < 65535
 
 -- no index and no number of an accepted access is out of range
-pub sound-admits : (s : State) (task object : ℕ) → Sound s → Accepts s task object → Admits s task object
+pub sound-admits : (s : State) (task object : ℕ) → Sound s → Accepts s task object → Admits (marksOf s) (localityOf s object) task
 sound-admits s task object f a = record {
   task-low = omega (arith, a .task-low, f .tasks-fit);
-  object-low = omega (arith, a .object-low, f .objects-fit);
   holder-low = omega (arith, f .object object (a .object-low) .holder-low, f .tasks-fit);
   more = a .more;
   share = omega (arith, f .counted, f .tasks-fit, sum-bound (s .done) (s .tasks) (λ (i : ℕ) (h : i < s .tasks). f .task i h .done-fits));

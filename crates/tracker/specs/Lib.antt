@@ -1,4 +1,5 @@
 pub mod State
+pub mod Marks
 pub mod Range
 pub mod Sum
 pub mod Row
@@ -8,6 +9,7 @@ pub mod Next
 pub mod Plan
 pub mod ByRow
 pub mod Sound
+pub mod Scan
 pub mod Facts
 pub mod View
 pub mod Opened

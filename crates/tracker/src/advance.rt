@@ -1,14 +1,13 @@
-// An access by the transition table: `decide` picks what it does, and `moved` does it.
+// An access by the transition table: `decide` picks what it does; the recorder does it.
 ghost use mathlib.Core.Path.{_≡_};
 ghost use Prim.Native.Nat.{_+_, _<_, _^_};
 ghost use Rattle.tracker.specs.State.{holderOf, shareOf};
 ghost use Rattle.tracker.specs.ByRow.{plainPlan, sharePlan, fencePlan, takePlan, planBy};
-ghost use Rattle.tracker.specs.Plan.{Admits, planOf, movedOf};
+ghost use Rattle.tracker.specs.Plan.{Admits, planFor};
 use crate::Locality;
-use crate::ObjectRecord;
+use crate::Marks;
 use crate::Plan;
 use crate::Row;
-use crate::State;
 use crate::table::row_of;
 use codec::Position;
 
@@ -143,54 +142,35 @@ fn by_row(row: Row, locality: Locality, entries: Entries, done: Position, took: 
     }
 }
 
-// What an access does, by the table.
-pub fn decide(state: State, task: usize, object: usize, write: bool) -> Plan
-    requires { ⌜ Admits state task object ⌝ }
-    ensures { λ r. ⌜ r ≡ planOf state task object write ⌝ }
+// What an access to an object in `locality` does, by the table.
+pub fn decide(marks: Marks, locality: Locality, task: usize, write: bool) -> Plan
+    requires { ⌜ Admits marks locality task ⌝ }
+    ensures { λ r. ⌜ r ≡ planFor marks locality task write ⌝ }
 {
-    let record = state.records[object];
-    let locality = record.locality;
     let me = task as u16;
     let here = Position {
         task: me,
-        number: state.done[task] + 1,
+        number: marks.done[task] + 1,
     };
-    let seen = state.seen[task];
-    let last = state.last;
+    let seen = marks.seen[task];
+    let last = marks.last;
     let entries = Entries {
         here,
         seen,
-        took: state.took[task],
-        shares: state.shares,
+        took: marks.took[task],
+        shares: marks.shares,
         last,
     };
     let holder = holder_of(locality);
     let other = holder as usize;
     let done = Position {
         task: holder,
-        number: state.done[other],
+        number: marks.done[other],
     };
     let took = Position {
         task: holder,
-        number: state.took[other],
+        number: marks.took[other],
     };
     let row = row_of(locality, me, seen, write);
     by_row(row, locality, entries, done, took)
-}
-
-// The state after an access that goes as planned.
-pub fn moved(mut state: State, task: usize, object: usize, plan: Plan) -> State
-    requires { ⌜ Admits state task object ⌝ }
-    ensures { λ r. ⌜ r ≡ movedOf state task object plan ⌝ }
-{
-    let locality = plan.locality;
-    let record = ObjectRecord { locality };
-    let last = plan.last;
-    state.records[object] = record;
-    state.done[task] += 1;
-    state.seen[task] = plan.seen;
-    state.took[task] = plan.took;
-    state.shares = plan.shares;
-    state.last = last;
-    state
 }

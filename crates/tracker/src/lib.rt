@@ -1,5 +1,6 @@
 // The recorder's state, its soundness test and the transition table of document 01.
 ghost use mathlib.Core.Path.{_≡_};
+ghost use Rattle.tracker.specs.Marks.{marksOf};
 ghost use Rattle.tracker.specs.State.{blankState};
 use codec::Position;
 
@@ -26,6 +27,17 @@ pub struct State {
     pub tasks: u16,
     pub objects: u16,
     pub records: [ObjectRecord; 256],
+    pub done: [u16; 16],
+    pub seen: [u32; 16],
+    pub took: [u16; 16],
+    pub shares: u32,
+    pub last: Position,
+}
+
+// A state without its objects' records: what an access may pass on by value at little cost.
+pub struct Marks {
+    pub tasks: u16,
+    pub objects: u16,
     pub done: [u16; 16],
     pub seen: [u32; 16],
     pub took: [u16; 16],
@@ -75,6 +87,24 @@ pub fn blank() -> State
         seen: [0u32; 16],
         took: [0u16; 16],
         shares: 0,
+        last,
+    }
+}
+
+pub fn marks_of(state: State) -> Marks
+    ensures { λ r. ⌜ r ≡ marksOf state ⌝ }
+{
+    let done = state.done;
+    let seen = state.seen;
+    let took = state.took;
+    let last = state.last;
+    Marks {
+        tasks: state.tasks,
+        objects: state.objects,
+        done,
+        seen,
+        took,
+        shares: state.shares,
         last,
     }
 }

@@ -2,9 +2,11 @@
 ghost use mathlib.Core.Path.{_≡_};
 ghost use Prim.Native.Nat.{_≤_};
 ghost use Rattle.tracker.specs.Range.{isWithin};
-ghost use Rattle.tracker.specs.Sound.{lastSound, taskSound, tasksSound, objectSound, soundOf};
+ghost use Rattle.tracker.specs.Sound.{lastSound, taskSound, tasksSound, marksSound, objectSound, soundOf};
 use crate::Locality;
+use crate::Marks;
 use crate::State;
+use crate::marks_of;
 use codec::Position;
 
 // `n` is `low` to `high`.
@@ -37,7 +39,7 @@ fn task_sound(done: u16, seen: u32, took: u16, shares: u32) -> bool
 }
 
 // A holder is a task, and a share number is 1 to G.
-fn object_sound(locality: Locality, tasks: u16, shares: u32) -> bool
+pub fn object_sound(locality: Locality, tasks: u16, shares: u32) -> bool
     ensures { λ r. ⌜ r ≡ objectSound locality tasks shares ⌝ }
 {
     match locality {
@@ -65,26 +67,34 @@ fn tasks_sound(tasks: u16, shares: u32, done: [u16; 16], seen: [u32; 16], took: 
     shares <= sum
 }
 
-// Document 01: a sound recording state; number 17 is for any other.
-pub fn sound(state: State) -> bool
-    ensures { λ r. ⌜ r ≡ soundOf state ⌝ }
+// All but the objects: T and N, Last, each task.
+pub fn marks_sound(marks: Marks) -> bool
+    ensures { λ r. ⌜ r ≡ marksSound marks ⌝ }
 {
-    let tasks = state.tasks;
-    let shares = state.shares;
-    let last = state.last;
-    let done = state.done;
-    let seen = state.seen;
-    let took = state.took;
+    let tasks = marks.tasks;
+    let shares = marks.shares;
+    let last = marks.last;
+    let done = marks.done;
+    let seen = marks.seen;
+    let took = marks.took;
     if !within(1, 16, tasks as u32) {
         return false;
     }
-    if !within(1, 256, state.objects as u32) {
+    if !within(1, 256, marks.objects as u32) {
         return false;
     }
     if !last_sound(last, tasks, shares, done) {
         return false;
     }
-    if !tasks_sound(tasks, shares, done, seen, took) {
+    tasks_sound(tasks, shares, done, seen, took)
+}
+
+// Document 01: a sound recording state; number 17 is for any other.
+pub fn sound(state: State) -> bool
+    ensures { λ r. ⌜ r ≡ soundOf state ⌝ }
+{
+    let marks = marks_of(state);
+    if !marks_sound(marks) {
         return false;
     }
     let n = state.objects as usize;
@@ -92,7 +102,7 @@ pub fn sound(state: State) -> bool
     while i < n {
         let record = state.records[i];
         let locality = record.locality;
-        if !object_sound(locality, tasks, shares) {
+        if !object_sound(locality, marks.tasks, marks.shares) {
             return false;
         }
         i += 1;
