@@ -1,9 +1,9 @@
 // The replay program (document 01): a recording from standard input, stepped lowest ready task first, a line a step.
 ghost use mathlib.Core.Path.{_≡_};
-ghost use Prim.Native.Nat.{_≤_};
+ghost use Prim.Native.Nat.{_<_, _≤_};
 ghost use lib.ListN.{length};
-ghost use Rattle.replay.specs.Finished.{isOver, finishedOf};
-ghost use Rattle.replay.specs.Played.{LowestFirst};
+ghost use Rattle.replayer.specs.Finish.{leftOver, finishOf};
+ghost use Rattle.replayer.specs.FinishLaws.{Playing};
 use crate::lines::put_end;
 use crate::lines::put_refusal;
 use crate::lines::put_step;
@@ -11,7 +11,7 @@ use crate::lines::put_values;
 use crate::text::flushed;
 use reader::survey::survey;
 use replayer::Run;
-use replayer::TaskRun;
+use replayer::finish::finished;
 use replayer::lowest_ready;
 use replayer::open;
 use replayer::ready;
@@ -20,103 +20,95 @@ use replayer::step;
 mod lines;
 mod text;
 
-// A task that is not below T, or has done its count.
-fn is_over(tasks: usize, task: usize, x: TaskRun) -> bool
-    ensures { λ r. ⌜ r ≡ isOver tasks task x ⌝ }
-{
-    if tasks <= task {
-        return true;
-    }
-    x.count <= x.done
-}
-
-// No task below T has accesses left.
-fn finished(run: Run) -> bool
-    ensures { λ r. ⌜ r ≡ finishedOf run ⌝ }
-{
-    for t in 0..16 {
-        let x = run.runs[t];
-        if !is_over(run.tasks, t, x) {
-            return false;
-        }
-    }
-    true
-}
-
-// What the steps left: the run, how many they were, and the place behind what is still to be written.
-struct Played {
+// What the steps left: the run, how many they were, the place behind what is still to be written, and whether all writes went well.
+struct Told {
     run: Run,
     steps: usize,
     at: usize,
+    wrote: bool,
 }
 
-// Steps the lowest ready task until none is ready. A step uses up at least a record, so the bytes are budget enough.
-fn play(bytes: &[u8], start: Run, memory: &mut [u32], out: &mut [u8]) -> Played
-    requires { ⌜ 65536 ≤ length (now out) ⌝ }
-    ensures { λ r. ⌜ LowestFirst (now (bytes .entry)) start (now (memory .entry)) (r .run) (now (memory .exit)) (r .steps) ⌝ }
+// Steps the lowest ready task until none is ready, and writes a line a step. Each step leaves one access fewer, so the loop ends.
+fn play(bytes: &[u8], start: Run, memory: &mut [u32], out: &mut [u8]) -> Told
+    requires { ⌜ Playing (now bytes) (record { run = start; memory = now memory; steps = 0 }) ⌝ }
+    requires { ⌜ (leftOver start < 18446744073709551616) × (65536 ≤ length (now out)) ⌝ }
+    ensures { λ r. ⌜ record { run = r .run; memory = now (memory .exit); steps = r .steps } ≡ finishOf (now (bytes .entry)) (record { run = start; memory = now (memory .entry); steps = 0 }) ⌝ }
     ensures { λ r. ⌜ r .at ≤ 60000 ⌝ }
 {
     let mut run = start;
+    let mut steps: usize = 0;
     let mut at = 0;
-    let mut steps = 0;
-    while steps < bytes.len() {
+    let mut wrote = true;
+    loop {
         let w = ready(run, bytes);
-        let task = lowest_ready(w.word) as usize;
-        if task == 16 {
-            break;
+        let word = w.word;
+        if word == 0 {
+            return Told {
+                run,
+                steps,
+                at,
+                wrote,
+            };
         }
+        let task = lowest_ready(word) as usize;
         let s = step(run, bytes, memory, task);
-        at = put_step(out, at, task, s);
-        at = flushed(out, at);
+        let end = put_step(out, at, task, s);
+        let f = flushed(out, end, wrote);
+        at = f.at;
+        wrote = f.wrote;
         let after = s.run;
         run = after;
         steps += 1;
     }
-    Played { run, steps, at }
 }
 
-// A line a step, then how it ended, then the memory.
-fn tell(bytes: &[u8], start: Run, memory: &mut [u32], out: &mut [u8])
-    requires { ⌜ (length (now memory) ≤ 256) × (65536 ≤ length (now out)) ⌝ }
+// A line a step, then how it ended, then the memory; whether all writes went well.
+fn tell(bytes: &[u8], start: Run, memory: &mut [u32], out: &mut [u8]) -> bool
+    requires { ⌜ Playing (now bytes) (record { run = start; memory = now memory; steps = 0 }) ⌝ }
+    requires { ⌜ (leftOver start < 18446744073709551616) × (length (now memory) ≤ 256) × (65536 ≤ length (now out)) ⌝ }
 {
     let p = play(bytes, start, memory, out);
     let run = p.run;
     let end = put_end(out, p.at, finished(run), p.steps);
     let all = put_values(out, end, memory);
-    io::write_all(1, &out[..all]);
+    io::write_all(1, &out[..all]) && p.wrote
 }
 
-fn refuse(out: &mut [u8], number: u32, offset: usize)
+fn refuse(out: &mut [u8], number: u32, offset: usize) -> bool
     requires { ⌜ 50 ≤ length (now out) ⌝ }
 {
     let at = put_refusal(out, 0, number, offset);
-    io::write_all(1, &out[..at]);
+    io::write_all(1, &out[..at])
 }
 
 // The head says how many objects there are, and opening wants a memory of so many.
-fn replay(bytes: &[u8]) {
+fn replay(bytes: &[u8]) -> bool {
     let mut space = io::large_buffer();
     let out: &mut [u8] = &mut space;
     let l = survey(bytes);
     if l.number != 0 {
-        refuse(out, l.number, l.offset);
-        return;
+        return refuse(out, l.number, l.offset);
     }
     let objects = l.objects;
     let mut values = [0u32; 256];
     let memory = &mut values[..objects];
     let o = open(bytes, memory);
     let run = o.run;
-    tell(bytes, run, memory, out);
+    tell(bytes, run, memory, out)
 }
 
 // One byte more than a recording may have, to notice a longer one.
-fn main() {
+fn answer() -> bool {
     let mut bytes = [0u8; 65537];
     let n = io::read_full(0, &mut bytes);
     if n == 65537 {
-        io::write_all(1, b"long\n");
-        return;
+        return io::write_all(1, b"long\n");
     }
-    replay(&bytes[..n]);
+    replay(&bytes[..n])
+}
+
+fn main() {
+    if !answer() {
+        io::write_all(2, b"replay: could not write all of the answer\n");
+    }
 }

@@ -6,16 +6,25 @@ ghost use Rattle.replay.specs.Appended.{Appended};
 ghost use Rattle.replay.specs.Decimal.{decimalOf};
 ghost use Rattle.replay.specs.Lines.{fieldOf};
 
+// The place that is next to be filled, and whether all writes so far went well.
+pub(crate) struct Written {
+    pub(crate) at: usize,
+    pub(crate) wrote: bool,
+}
+
 // Writes the buffer out once it is well filled: 65,536 bytes then always have room for the next line and the last two.
-pub(crate) fn flushed(out: &[u8], at: usize) -> usize
+pub(crate) fn flushed(out: &[u8], at: usize, wrote: bool) -> Written
     requires { ⌜ at ≤ length (now out) ⌝ }
-    ensures { λ r. ⌜ r ≤ 60000 ⌝ }
+    ensures { λ r. ⌜ r .at ≤ 60000 ⌝ }
 {
     if at <= 60000 {
-        return at;
+        return Written { at, wrote };
     }
-    io::write_all(1, &out[..at]);
-    0
+    let all = io::write_all(1, &out[..at]);
+    Written {
+        at: 0,
+        wrote: wrote && all,
+    }
 }
 
 pub(crate) fn put_byte(out: &mut [u8], at: usize, byte: u8) -> usize

@@ -17,5 +17,9 @@ write-all-requires c κs = search needs
 returns-2 : tie.Need-returns-2
 returns-2 c = search needs
 
+returns-3 : tie.Need-returns-3
+returns-3 c = search needs
+
 pub flushed-spec : {M : Type 1} → statement M
-flushed-spec = tie.close (tie.spec returns slice-aggregate-write-all write-all-requires returns-2)
+flushed-spec =
+    tie.close (tie.spec returns slice-aggregate-write-all write-all-requires returns-2 returns-3)
