@@ -1,0 +1,29 @@
+// The recordings of data/ played and compared: the runs of the bench that no theorem has, the run that sticks among them.
+use transcript::answer;
+
+// A recording's name, and then what the replay program writes of it.
+fn play_file(path: &[u8]) {
+    let fd = os::open_read(path);
+    if fd < 0 {
+        os::fail(path);
+        return;
+    }
+    let mut bytes = [0u8; 65537];
+    let n = io::read_full(fd, &mut bytes);
+    libc::close(fd);
+    io::write_all(1, path);
+    io::write_all(1, b"\n");
+    answer(&bytes[..n]);
+}
+
+fn play_argument(i: usize) {
+    let mut path = io::buffer();
+    let length = os::arg(i, &mut path);
+    play_file(&path[..length]);
+}
+
+fn main() {
+    for i in 1..os::arg_count() {
+        play_argument(i);
+    }
+}

@@ -1,0 +1,53 @@
+use native.Mathlib.Omega.{arith}
+use Rattle.transcript.specs.Appended.{joined}
+use Rattle.transcript.specs.Lines.{endOf}
+use borrow.Author.Needs.{needs}
+use Rattle.transcript.proofs.lines.put_end.Statement.{statement}
+use Rattle.transcript.proofs.lines.put_end.Tie as tie
+
+slice-aggregate-put-bytes : tie.Need-slice-aggregate-put-bytes
+slice-aggregate-put-bytes c = search needs
+
+put-bytes-requires : tie.Need-put-bytes-requires
+put-bytes-requires c κs = search needs
+
+put-field-requires : tie.Need-put-field-requires
+put-field-requires c κs = search needs
+
+same-length : tie.Need-same-length
+same-length c = search needs
+
+returns : tie.Need-returns
+unfolding endOf
+returns c = (rw (c .before .before .before .before .before .before .before .before .before .if1 .taken) (joined _ _ _ _ _ _ _ _ (c .before .before .before .before .before .before .put-bytes .ensures) (c .before .before .put-field .ensures .0)), omega arith)
+
+slice-aggregate-put-bytes-2 : tie.Need-slice-aggregate-put-bytes-2
+slice-aggregate-put-bytes-2 c = search needs
+
+put-bytes-requires-2 : tie.Need-put-bytes-requires-2
+put-bytes-requires-2 c κs = search needs
+
+put-field-requires-2 : tie.Need-put-field-requires-2
+put-field-requires-2 c κs = search needs
+
+same-length-2 : tie.Need-same-length-2
+same-length-2 c = search needs
+
+returns-2 : tie.Need-returns-2
+unfolding endOf
+returns-2 c = (rw (c .before .before .before .before .before .before .before .before .before .if1 .left) (joined _ _ _ _ _ _ _ _ (c .before .before .before .before .before .before .put-bytes2 .ensures) (c .before .before .put-field2 .ensures .0)), omega arith)
+
+pub put-end-spec : {M : Type 1} → statement M
+put-end-spec =
+    tie.close
+    (tie.spec
+    slice-aggregate-put-bytes
+    put-bytes-requires
+    put-field-requires
+    same-length
+    returns
+    slice-aggregate-put-bytes-2
+    put-bytes-requires-2
+    put-field-requires-2
+    same-length-2
+    returns-2)

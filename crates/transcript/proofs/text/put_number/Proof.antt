@@ -1,0 +1,42 @@
+use mathlib.Core.Path.{_∙_}
+use native.Mathlib.Omega.{arith}
+use Rattle.transcript.specs.Decimal.{decimal-so, decimal-short}
+use borrow.Author.Needs.{needs}
+use Rattle.transcript.proofs.text.put_number.Statement.{statement}
+use Rattle.transcript.proofs.text.put_number.Tie as tie
+
+decimal-requires : tie.Need-decimal-requires
+decimal-requires c κs = search needs
+
+array-share-prefix-digits : tie.Need-array-share-prefix-digits
+array-share-prefix-digits c = search needs
+
+slice-aggregate-put-bytes : tie.Need-slice-aggregate-put-bytes
+slice-aggregate-put-bytes c = search needs
+
+put-bytes-requires : tie.Need-put-bytes-requires
+put-bytes-requires c κs =
+    let n = c .before .before .before .before .before .args .n in
+    let d = c .before .before .decimal in
+    rw (d .ensures .1 .1 ∙ decimal-so n (d .result) (omega arith) (d .ensures .1 .0)) (omega (arith, decimal-short n))
+
+same-length : tie.Need-same-length
+same-length c = search needs
+
+returns : tie.Need-returns
+returns c =
+    let n = c .before .before .before .before .before .before .before .before .args .n in
+    let d = c .before .before .before .before .before .decimal in
+    let a = rw (d .ensures .1 .1 ∙ decimal-so n (d .result) (omega arith) (d .ensures .1 .0)) at (c .before .before .put-bytes .ensures) in
+    (a, omega (arith, a .behind, decimal-short n))
+
+pub put-number-spec : {M : Type 1} → statement M
+put-number-spec =
+    tie.close
+    (tie.spec
+    decimal-requires
+    array-share-prefix-digits
+    slice-aggregate-put-bytes
+    put-bytes-requires
+    same-length
+    returns)
