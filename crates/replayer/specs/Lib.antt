@@ -1,10 +1,12 @@
 pub mod Alike
 pub mod AlikeTurn
 pub mod All
+pub mod Dones
 pub mod Finish
 pub mod FinishLaws
 pub mod InPlace
 pub mod Left
+pub mod Look
 pub mod Memory
 pub mod Met
 pub mod Moved
