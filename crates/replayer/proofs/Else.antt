@@ -46,3 +46,8 @@ pub closed-bit : (l : Look) → OneOf (1 ∷ 2 ∷ []) (tagOf look-type l) → i
 closed-bit (LookOpen o k) h = absurd (miss (1 ∷ 2 ∷ []) 0 tt h)
 closed-bit (LookHeld p) h = refl
 closed-bit (LookRefused c) h = refl
+
+pub closed-next : (n : Next) → OneOf (1 ∷ 2 ∷ []) (tagOf next-type n) → isOpen n ≡ false
+closed-next (Open o k) h = absurd (miss (1 ∷ 2 ∷ []) 0 tt h)
+closed-next Held h = refl
+closed-next (Refused c) h = refl

@@ -16,6 +16,8 @@ pub mod NextTurn
 pub mod OpenLaws
 pub mod OpenOf
 pub mod OpenTurn
+pub mod Pick
+pub mod PickLaws
 pub mod ReadyLaws
 pub mod ReadyOf
 pub mod Run
