@@ -25,5 +25,7 @@ pub mod Sound
 pub mod StepLaws
 pub mod StepOf
 pub mod StepTurn
+pub mod ToEnd
+pub mod ToEndTurn
 pub mod Word
 pub mod WordLaws

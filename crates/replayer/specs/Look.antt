@@ -37,7 +37,7 @@ pub record Looks (m : Limits) (dones : List ℕ) (from : ℕ) (x : Reading Entry
   pub held : (p : Position) → l ≡ LookHeld p → Awaits m from x p
 
 -- what the code has of a run where it looks at a task: the task's record, T, N and the counts done
-pub record Standing (r : Run) (t : ℕ) (x : TaskRun) (m : Limits) (dones : List ℕ) : Type 0 where
+pub record OneTask (r : Run) (t : ℕ) (x : TaskRun) (m : Limits) (dones : List ℕ) : Type 0 where
   pub task : x ≡ taskAt (r .runs) t
   pub limits : m ≡ limitsOf r t
   pub counts : donesOf (r .runs) ≡ dones
@@ -46,7 +46,7 @@ pub record Standing (r : Run) (t : ℕ) (x : TaskRun) (m : Limits) (dones : List
 abbrev pub readingOf : Limits → TaskRun → List ℕ → Reading Entry
 readingOf m x b = entryOf m (stop inBody (x .place)) (x .place) (part (x .place) (x .end) b)
 
-module _ (r : Run) (b : List ℕ) (t : ℕ) (x : TaskRun) (m : Limits) (dones : List ℕ) (w : Standing r t x m dones) (l : Look)
+module _ (r : Run) (b : List ℕ) (t : ℕ) (x : TaskRun) (m : Limits) (dones : List ℕ) (w : OneTask r t x m dones) (l : Look)
     (k : Looks m dones (x .place) (readingOf m x b) l) where
   pub look-next : asNext l ≡ nextOf r b t
   unfolding nextOf entryNext

@@ -20,7 +20,7 @@ use Rattle.replayer.specs.declared.next.Next.{Next}
 use Rattle.replayer.specs.declared.next.Next.the-variants.{Open, Held}
 use Rattle.replayer.specs.declared.pick.Pick.{Pick}
 use Rattle.replayer.specs.Dones.{donesOf, dones-at}
-use Rattle.replayer.specs.Look.{asNext, Looks, Standing, readingOf, look-next, look-held}
+use Rattle.replayer.specs.Look.{asNext, Looks, OneTask, readingOf, look-next, look-held}
 use Rattle.replayer.specs.Moved.{Shaped, moved-own, moved-other, moved-tasks, moved-objects}
 use Rattle.replayer.specs.Next.{entryNext, judged, nextOf, isOpen}
 use Rattle.replayer.specs.NextTurn.{and-false}
@@ -69,7 +69,7 @@ noted-none r b = record {
   waits = λ t h. absurd (omega (arith, h, zeros-at 16 t));
 }
 
-module _ (r : Run) (b : List ℕ) (t : ℕ) (x : TaskRun) (m : Limits) (dones sources numbers : List ℕ) (w : Standing r t x m dones) (n : Noted r b sources numbers) where
+module _ (r : Run) (b : List ℕ) (t : ℕ) (x : TaskRun) (m : Limits) (dones sources numbers : List ℕ) (w : OneTask r t x m dones) (n : Noted r b sources numbers) where
   -- a note that is not met
   pub visit-waits : getD dones (getD sources t 0) 0 < getD numbers t 0 → Visited r b t sources numbers Held
   unfolding isReady nextOf

@@ -6,7 +6,7 @@ ghost use mathlib.Core.Bool.{true};
 ghost use lib.ListN.{length, getD};
 ghost use Rattle.replayer.specs.declared.Run.{Run};
 ghost use Rattle.replayer.specs.Dones.{donesOf};
-ghost use Rattle.replayer.specs.Look.{Standing};
+ghost use Rattle.replayer.specs.Look.{OneTask};
 ghost use Rattle.replayer.specs.Pick.{Noted, Visited, Picked};
 ghost use Rattle.replayer.specs.ReadyOf.{hasLeft};
 ghost use Rattle.replayer.specs.Sound.{Sound};
@@ -35,7 +35,7 @@ fn visit(
     numbers: &mut [usize; 16],
 ) -> Next
     requires { ⌜ (limits .tasks ≤ 16) × (limits .own < 16) × (x .end ≤ length (now bytes)) × ((t : ℕ) → getD (now sources) t 0 < 16) ⌝ }
-    ensures { λ r. ⌜ ((run : Run) → Standing run (limits .own) x limits (now (dones .entry)) → hasLeft run (limits .own) ≡ true
+    ensures { λ r. ⌜ ((run : Run) → OneTask run (limits .own) x limits (now (dones .entry)) → hasLeft run (limits .own) ≡ true
         → Noted run (now (bytes .entry)) (now (sources .entry)) (now (numbers .entry))
         → Visited run (now (bytes .entry)) (limits .own) (now (sources .exit)) (now (numbers .exit)) r) ⌝ }
 {
