@@ -12,18 +12,14 @@ use Rattle.codec.specs.Number.{entries as wrongLength}
 use Rattle.replayer.specs.declared.alike.Compared.{Compared}
 use Rattle.replayer.specs.declared.finish.Played.{Played}
 use Rattle.replayer.specs.All.{allFrom}
-use Rattle.replayer.specs.Finish.{Play, finishOf, shownPlay, finishedOf}
-use Rattle.replayer.specs.OpenOf.{openOf}
+use Rattle.replayer.specs.Finish.{Play, shownPlay, finishedOf}
+use Rattle.replayer.specs.ToEnd.{playOf}
 
 -- the answer, and the memories after the call
 pub record Comparison : Type 0 where
   pub answer : Compared
   pub first : List ℕ
   pub second : List ℕ
-
--- a recording played from its opening
-abbrev pub playOf : List ℕ → List ℕ → Play
-playOf b memory = finishOf b (record { run = openOf b memory .answer .run; memory = openOf b memory .memory; steps = 0 })
 
 abbrev pub sameAt : List ℕ → List ℕ → ℕ → Bool
 sameAt a b i = eqb (getD a i 0) (getD b i 0)

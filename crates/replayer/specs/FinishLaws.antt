@@ -11,9 +11,7 @@ use lib.Dec.{eqb, ltb}
 use lib.ListN.{length}
 use borrow.Author.Tests.{ltb-true, eq-eqb, ne-eqb}
 use Rattle.codec.specs.Decide.{passes, fails, split, never}
-use Rattle.replayer.specs.declared.ReadyWord.{ReadyWord}
 use Rattle.replayer.specs.declared.Run.{Run}
-use Rattle.replayer.specs.declared.Stepped.{Stepped}
 use Rattle.replayer.specs.Finish.{Play, wordAt, taskNext, onward, playedOf, leftIn, leftOver, finishOf, tasksIn}
 use Rattle.replayer.specs.Moved.{Shaped, moved-own, moved-other, moved-tasks}
 use Rattle.replayer.specs.ReadyLaws.{LowestIs, ready, nowhere, ready-word}
@@ -41,7 +39,7 @@ word-zero f i (suc n) g =
 
 -- a word that is not 0 names a ready task
 module _ (r : Run) (b : List ℕ) (s : soundOf r (length b) ≡ true) where
-  ready-word-zero : ((t : ℕ) → t < r .tasks → isReady r b t ≡ false) → readyOf r b .word ≡ 0
+  pub ready-word-zero : ((t : ℕ) → t < r .tasks → isReady r b t ≡ false) → readyOf r b .word ≡ 0
   unfolding readyOf
   ready-word-zero g = rw s (word-zero (isReady r b) 0 (r .tasks) (λ t h. let e : 0 + t ≡ t = omega arith in rw e (g t h)))
 
@@ -119,15 +117,6 @@ pub record Turn (b : List ℕ) (x y : Play) : Type 0 where
   pub playing : Playing b y
   pub fewer : leftOver (y .run) + 1 ≡ leftOver (x .run)
   pub same : finishOf b x ≡ finishOf b y
-
-pub finish-turn : (b : List ℕ) (x : Play) → Playing b x → (v : ReadyWord) → v ≡ readyOf (x .run) b → (v .word ≡ 0 → ⊥) → (t : ℕ) → t ≡ lowestReady (v .word)
-    → (s : Stepped) → s ≡ stepOf (x .run) b (x .memory) t .answer → (m : List ℕ) → m ≡ stepOf (x .run) b (x .memory) t .memory
-    → Turn b x (record { run = s .run; memory = m; steps = x .steps + 1 })
-unfolding onward
-finish-turn b x w v e z t f s g m k =
-    let z′ : wordAt b x ≡ 0 → ⊥ = λ q. z (ap (λ (y : ReadyWord). y .word) e ∙ q) in
-    let o : Onward b x = goes-onward b x w z′ in
-    rw (g, k, f, e) (record { playing = o .playing; fewer = o .fewer; same = finish-on b x w z′ })
 
 pub tasks-few : (tasks : ℕ) → tasksIn tasks ≤ 16
 tasks-few tasks = elim (split (ltb tasks 16)) [ passes p ↦ rw p (omega (arith, ltb-true tasks 16 p)) | fails p ↦ rw p (omega arith) ]

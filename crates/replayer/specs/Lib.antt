@@ -1,10 +1,12 @@
 pub mod Alike
 pub mod AlikeTurn
 pub mod All
+pub mod Dones
 pub mod Finish
 pub mod FinishLaws
 pub mod InPlace
 pub mod Left
+pub mod Look
 pub mod Memory
 pub mod Met
 pub mod Moved
@@ -14,6 +16,8 @@ pub mod NextTurn
 pub mod OpenLaws
 pub mod OpenOf
 pub mod OpenTurn
+pub mod Pick
+pub mod PickLaws
 pub mod ReadyLaws
 pub mod ReadyOf
 pub mod Run
@@ -21,5 +25,7 @@ pub mod Sound
 pub mod StepLaws
 pub mod StepOf
 pub mod StepTurn
+pub mod ToEnd
+pub mod ToEndTurn
 pub mod Word
 pub mod WordLaws

@@ -1,10 +1,11 @@
 -- One turn of the loop that judges the orderings of a group that was read, over plain variables.
-use mathlib.Core.Path.{_≡_, sym, ap, _∙_}
-use mathlib.Core.Bool.{cond}
+use mathlib.Core.Path.{_≡_, refl, sym, ap, _∙_}
+use mathlib.Core.Bool.{Bool, true, false, cond, _&&_}
 use mathlib.Core.List.{List, _∷_}
 use Prim.Native.Nat.{ℕ, _+_, _-_, _≤_, _<_}
 use native.Mathlib.Omega.{arith}
-use lib.ListN.{length, take, drop}
+use lib.Dec.{leb}
+use lib.ListN.{length, take, drop, getD}
 use borrow.Author.Tests.{le-leb, lt-leb}
 use Rattle.codec.specs.declared.Op.{Op}
 use Rattle.codec.specs.declared.Position.{Position}
@@ -24,63 +25,93 @@ use Rattle.reader.specs.Part.{part, part-drop, part-length}
 use Rattle.reader.specs.Reading.{Reading, read, stop}
 use Rattle.reader.specs.Recording.{Entry}
 use Rattle.replayer.specs.declared.TaskRun.{TaskRun}
-use Rattle.replayer.specs.declared.next.Next.{Next}
+use Rattle.replayer.specs.declared.next.Look.the-variants.{Open as LookOpen, Held as LookHeld, Refused as LookRefused}
 use Rattle.replayer.specs.declared.next.Next.the-variants.{Open, Held, Refused}
+use Rattle.replayer.specs.Dones.{donesOf, dones-at}
+use Rattle.replayer.specs.Look.{Awaits, Looks}
 use Rattle.replayer.specs.Run.{doneOf}
 use Rattle.replayer.specs.Met.{allMet}
 use Rattle.replayer.specs.Next.{judged}
 
--- the orderings from a place on are still to be judged; judged, they give what the whole group gives
-pub record Ahead (m : Limits) (b : List ℕ) (runs : List TaskRun) (place end : ℕ) (op : Op) (next : ℕ) (whole : Next) : Type 0 where
+-- the orderings from a place on are still to be judged; judged, they give what the whole group gives, and one of them that is not met
+-- holds it
+pub record Ahead (m : Limits) (b dones : List ℕ) (place end : ℕ) (op : Op) (next from : ℕ) (whole : Reading Entry) : Type 0 where
+  pub few : m .tasks ≤ 16
   pub ended : Checked
   pub entry : Entry
   pub reads : entryOf m ended place (part place end b) ≡ read entry
-  pub same : cond (allMet runs (entry .orderings)) (Open op next) Held ≡ whole
+  pub same : (runs : List TaskRun) → donesOf runs ≡ dones → cond (allMet runs (entry .orderings)) (Open op next) Held ≡ judged runs from whole
+  pub held : (other : List TaskRun) → allMet other (entry .orderings) ≡ false → judged other from whole ≡ Held
 
 judged-read : (runs : List TaskRun) (from : ℕ) (x : Reading Entry) (e : Entry) (o : Op) (n : ℕ) → x ≡ read e → o ≡ e .op → n ≡ from + entryLength e
     → cond (allMet runs (e .orderings)) (Open o n) Held ≡ judged runs from x
 unfolding judged
 judged-read runs from x e o n p q r = rw (p, q, r)
 
-module _ (m : Limits) (b : List ℕ) (runs : List TaskRun) (from end : ℕ) (f : Found)
+module _ (m : Limits) (b dones : List ℕ) (from end : ℕ) (f : Found)
     (e : f ≡ found from (entryOf m (stop inBody from) from (part from end b))) where
-  pub next-refused : (c : Checked) → f ≡ FoundRefused c → judged runs from (entryOf m (stop inBody from) from (part from end b)) ≡ Refused c
+  pub next-refused : (c : Checked) → f ≡ FoundRefused c → Looks m dones from (entryOf m (stop inBody from) from (part from end b)) (LookRefused c)
   unfolding judged
-  next-refused c q = rw (found-refused from (entryOf m (stop inBody from) from (part from end b)) c (sym e ∙ q))
+  next-refused c q = record {
+    same = λ runs h. rw (found-refused from (entryOf m (stop inBody from) from (part from end b)) c (sym e ∙ q));
+    held = λ p h. absurd (let z : _≡_ {A = ℕ} 0 1 = cc in omega arith);
+  }
 
-  pub ahead-start : (o : Op) (a n : ℕ) → f ≡ FoundAccess o a n
-      → Ahead m b runs from end o n (judged runs from (entryOf m (stop inBody from) from (part from end b)))
-  ahead-start o a n q =
+  pub ahead-start : m .tasks ≤ 16 → (o : Op) (a n : ℕ) → f ≡ FoundAccess o a n → Ahead m b dones from end o n from (entryOf m (stop inBody from) from (part from end b))
+  ahead-start h o a n q =
       let w = found-entry from (entryOf m (stop inBody from) from (part from end b)) o a n (sym e ∙ q) in
-      record { ended = stop inBody from; entry = w .entry; reads = w .reads; same = judged-read runs from _ (w .entry) o n (w .reads) (w .op) (w .next) }
+      record {
+        few = h;
+        ended = stop inBody from;
+        entry = w .entry;
+        reads = w .reads;
+        same = λ runs k. judged-read runs from _ (w .entry) o n (w .reads) (w .op) (w .next);
+        held = λ other k. sym (rw k at (judged-read other from _ (w .entry) o n (w .reads) (w .op) (w .next)));
+      }
 
 -- an ordering stands at a place: met, the rest is still ahead, and not met it holds the task
-pub record Passing (m : Limits) (b : List ℕ) (runs : List TaskRun) (place end : ℕ) (op : Op) (next : ℕ) (whole : Next) (p : Position) : Type 0 where
+pub record Passing (m : Limits) (b dones : List ℕ) (place end : ℕ) (op : Op) (next from : ℕ) (whole : Reading Entry) (p : Position) : Type 0 where
   pub below : p .task < m .tasks
-  pub met : p .number ≤ doneOf runs (p .task) → Ahead m b runs (place + 8) end op next whole
-  pub unmet : doneOf runs (p .task) < p .number → Held ≡ whole
+  pub met : p .number ≤ getD dones (p .task) 0 → Ahead m b dones (place + 8) end op next from whole
+  pub unmet : getD dones (p .task) 0 < p .number → Looks m dones from whole (LookHeld p)
 
-module _ (m : Limits) (b : List ℕ) (runs : List TaskRun) (place end : ℕ) (op : Op) (next : ℕ) (whole : Next) (w : Ahead m b runs place end op next whole) where
+pub and-false : (a : Bool) → (a && false) ≡ false
+and-false true = refl
+and-false false = refl
+
+module _ (m : Limits) (b dones : List ℕ) (place end : ℕ) (op : Op) (next from : ℕ) (whole : Reading Entry) (w : Ahead m b dones place end op next from whole) where
   pub ahead-inside : end ≤ length b → place < end
   ahead-inside h = omega (arith, entry-entered m (w .ended) place (part place end b) (w .entry) (w .reads) .within, entry-long (w .entry), part-length place end b h)
 
   ahead-case : EntryCase m place (part place end b) (w .entry)
   ahead-case = entry-case m place (part place end b) (w .entry) (w .ended) (w .reads)
 
-  passing : (x : More m place (part place end b) (w .entry)) → Passing m b runs place end op next whole (x .first)
+  passing : (x : More m place (part place end b) (w .entry)) → Passing m b dones place end op next from whole (x .first)
   unfolding allMet
   passing x =
       let s : w .entry .orderings ≡ x .first ∷ x .rest .orderings = ap (λ (y : Entry). y .orderings) (x .same) in
+      let d : (runs : List TaskRun) → donesOf runs ≡ dones → getD dones (x .first .task) 0 ≡ doneOf runs (x .first .task) = λ runs e. rw (← e) (dones-at runs (x .first .task) (omega (arith, x .below, w .few))) in
       record {
         below = x .below;
         met = λ h. record {
+          few = w .few;
           ended = stop misplaced place;
           entry = x .rest;
           reads = rw (part-drop 8 place end b) at (x .reads);
-          same = rw (s, le-leb (x .first .number) (doneOf runs (x .first .task)) h) at (w .same);
+          same = λ runs e. rw (s, le-leb (x .first .number) (doneOf runs (x .first .task)) (rw (d runs e) at h)) at (w .same runs e);
+          held = λ other k. w .held other (rw (s, k) (and-false (leb (x .first .number) (doneOf other (x .first .task)))));
         };
-        unmet = λ h. rw (s, lt-leb (x .first .number) (doneOf runs (x .first .task)) h) at (w .same);
+        unmet = λ h. record {
+          same = λ runs e. rw (s, lt-leb (x .first .number) (doneOf runs (x .first .task)) (rw (d runs e) at h)) at (w .same runs e);
+          held = λ p e. rw (← the-position e) (record {
+            below = x .below;
+            stays = λ other k. w .held other (rw (s, lt-leb (x .first .number) (doneOf other (x .first .task)) k));
+          });
+        };
       }
+    where
+      the-position : {a c : Position} → LookHeld a ≡ LookHeld c → a ≡ c
+      the-position g = cc
 
   module _ (r : Record) (q : r ≡ recordOf inBody (take (end - place) (drop place b))) where
     here : recordOf inBody (part place end b) ≡ r
@@ -88,14 +119,17 @@ module _ (m : Limits) (b : List ℕ) (runs : List TaskRun) (place end : ℕ) (op
     here = sym q
 
     -- no ordering stands there: it is the access
-    pub ahead-access : ((p : Position) → r ≡ Ordering p → ⊥) → Open op next ≡ whole
+    pub ahead-access : ((p : Position) → r ≡ Ordering p → ⊥) → Looks m dones from whole (LookOpen op next)
     unfolding allMet
     ahead-access h = elim ahead-case [
-      | last x ↦ rw (x .none) at (w .same)
+      | last x ↦ record {
+        same = λ runs e. rw (x .none) at (w .same runs e);
+        held = λ p k. absurd (let z : _≡_ {A = ℕ} 0 1 = cc in omega arith);
+      }
       | more x ↦ absurd (h (x .first) (sym here ∙ x .here))
     ]
 
-    pub ahead-turn : (p : Position) → r ≡ Ordering p → Passing m b runs place end op next whole p
+    pub ahead-turn : (p : Position) → r ≡ Ordering p → Passing m b dones place end op next from whole p
     ahead-turn p k = elim ahead-case [
       | last x ↦ absurd (let y : Access (w .entry .op) ≡ Ordering p = sym (x .here) ∙ here ∙ k in let z : _≡_ {A = ℕ} 0 1 = cc in omega arith)
       | more x ↦ let e : x .first ≡ p = the-same (sym (x .here) ∙ here ∙ k) in rw (← e) (passing x)

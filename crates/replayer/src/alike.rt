@@ -1,16 +1,10 @@
 // Whether two recordings are alike: both are played to their end, the lowest ready task first, and what they came to is compared.
 ghost use mathlib.Core.Path.{_≡_};
-ghost use lib.ListN.{length};
-ghost use Rattle.reader.specs.Layout.{layoutOf};
-ghost use Rattle.reader.specs.Parse.{parse};
-ghost use Rattle.replayer.specs.Finish.{shownPlay};
-ghost use Rattle.replayer.specs.Alike.{refusedCompared, playOf, sameEntries, alikeOf, sameOutcomeOf};
+ghost use Rattle.replayer.specs.Alike.{refusedCompared, sameEntries, alikeOf, sameOutcomeOf};
 use crate::finish::Played;
-use crate::finish::finish;
 use crate::finish::finished;
-use crate::start::begin;
+use crate::to_end::play;
 use codec::number::ENTRIES;
-use reader::survey::Layout;
 use reader::survey::survey;
 
 pub struct Compared {
@@ -27,16 +21,6 @@ fn refused(number: u32, offset: usize) -> Compared
         offset,
         alike: false,
     }
-}
-
-// A surveyed recording from its opening to where it ends or sticks.
-fn play(bytes: &[u8], l: Layout, memory: &mut [u32]) -> Played
-    requires { ⌜ (l ≡ layoutOf (parse (now bytes))) × (l .number ≡ 0) × (length (now memory) ≡ l .objects) ⌝ }
-    ensures { λ r. ⌜ r ≡ shownPlay (playOf (now (bytes .entry)) (now (memory .entry))) ⌝ }
-    ensures { λ r. ⌜ now (memory .exit) ≡ playOf (now (bytes .entry)) (now (memory .entry)) .memory ⌝ }
-{
-    let run = begin(bytes, l, memory);
-    finish(run, bytes, memory)
 }
 
 // Whether two memories are equal.

@@ -4,9 +4,10 @@ ghost use Prim.Native.Nat.{_<_};
 ghost use Rattle.replayer.specs.Finish.{leftOver, finishOf, shownPlay, tasksIn, finishedOf};
 ghost use Rattle.replayer.specs.FinishLaws.{Playing};
 use crate::Run;
-use crate::lowest_ready;
-use crate::ready;
-use crate::step;
+use crate::TaskRun;
+use crate::effect::perform;
+use crate::next::dones_of;
+use crate::pick::pick_lowest;
 
 // Where a run ended or stuck, and the steps that it took.
 pub struct Played {
@@ -23,15 +24,27 @@ pub(crate) fn finish(run: Run, bytes: &[u8], memory: &mut [u32]) -> Played
 {
     let mut at = run;
     let mut steps: usize = 0;
+    let mut dones = dones_of(run);
+    let mut sources = [0usize; 16];
+    let mut numbers = [0usize; 16];
     loop {
-        let w = ready(at, bytes);
-        let word = w.word;
-        if word == 0 {
+        let p = pick_lowest(at, bytes, &dones, &mut sources, &mut numbers);
+        let task = p.task;
+        if task == 16 {
             return Played { run: at, steps };
         }
-        let task = lowest_ready(word) as usize;
-        let s = step(at, bytes, memory, task);
-        at = s.run;
+        let op = p.op;
+        perform(op, memory);
+        let x = at.runs[task];
+        let done = x.done + 1;
+        let y = TaskRun {
+            place: p.next,
+            end: x.end,
+            done,
+            count: x.count,
+        };
+        at.runs[task] = y;
+        dones[task] = done;
         steps += 1;
     }
 }

@@ -7,10 +7,12 @@ ghost use Rattle.reader.specs.Part.{part};
 ghost use Rattle.reader.specs.Reading.{stop};
 ghost use Rattle.reader.specs.Entry.{entryOf};
 ghost use Rattle.replayer.specs.Run.{taskAt};
-ghost use Rattle.replayer.specs.Next.{refusalOf, judged, nextOf};
+ghost use Rattle.replayer.specs.Dones.{donesOf};
+ghost use Rattle.replayer.specs.Look.{asNext, Looks};
+ghost use Rattle.replayer.specs.Next.{refusalOf, nextOf};
 use crate::Run;
-use crate::TaskRun;
 use codec::Op;
+use codec::Position;
 use codec::Record;
 use codec::number::BODY;
 use codec::read::record;
@@ -23,6 +25,13 @@ use reader::entry::entry_at;
 pub enum Next {
     Open { op: Op, next: usize },
     Held,
+    Refused(Checked),
+}
+
+// The same with the first ordering that is not met.
+pub enum Look {
+    Open { op: Op, next: usize },
+    Held(Position),
     Refused(Checked),
 }
 
@@ -43,28 +52,56 @@ fn refusal(f: Found) -> Checked
     }
 }
 
-// The group from a place up to a body's end: all of it is read before an ordering is judged, so the first record that is no
-// ordering is the access.
-fn next_at(bytes: &[u8], from: usize, end: usize, limits: Limits, runs: [TaskRun; 16]) -> Next
+// The group from a place up to a body's end, held to the counts done: all of it is read before an ordering is judged, so the first
+// record that is no ordering is the access.
+pub(crate) fn look_at(
+    bytes: &[u8],
+    from: usize,
+    end: usize,
+    limits: Limits,
+    dones: &[usize; 16],
+) -> Look
     requires { ⌜ (limits .tasks ≤ 16) × (end ≤ length (now bytes)) ⌝ }
-    ensures { λ r. ⌜ r ≡ judged runs from (entryOf limits (stop inBody from) from (part from end (now (bytes .entry)))) ⌝ }
+    ensures { λ r. ⌜ Looks limits (now (dones .entry)) from (entryOf limits (stop inBody from) from (part from end (now (bytes .entry)))) r ⌝ }
 {
     let f = entry_at(bytes, from, end, limits);
     let Found::Access { op, at: _, next } = f else {
-        return Next::Refused(refusal(f));
+        return Look::Refused(refusal(f));
     };
     let mut place = from;
     loop {
         let r = record(&bytes[place..end], BODY);
         let Record::Ordering(p) = r else {
-            return Next::Open { op, next };
+            return Look::Open { op, next };
         };
         let source = p.task as usize;
-        let s = runs[source];
-        if s.done < p.number as usize {
-            return Next::Held;
+        if dones[source] < p.number as usize {
+            return Look::Held(p);
         }
         place += 8;
+    }
+}
+
+// The counts done, one for each task.
+pub(crate) fn dones_of(run: Run) -> [usize; 16]
+    ensures { λ r. ⌜ r ≡ donesOf (run .runs) ⌝ }
+{
+    let mut dones = [0usize; 16];
+    for t in 0..16 {
+        let x = run.runs[t];
+        dones[t] = x.done;
+    }
+    dones
+}
+
+// Without the ordering that holds it.
+fn as_next(l: Look) -> Next
+    ensures { λ r. ⌜ r ≡ asNext l ⌝ }
+{
+    match l {
+        Look::Open { op, next } => Next::Open { op, next },
+        Look::Held(_) => Next::Held,
+        Look::Refused(c) => Next::Refused(c),
     }
 }
 
@@ -79,6 +116,6 @@ pub(crate) fn next_of(run: Run, bytes: &[u8], task: usize) -> Next
         objects: run.objects,
         own: task,
     };
-    let runs = run.runs;
-    next_at(bytes, x.place, x.end, limits, runs)
+    let dones = dones_of(run);
+    as_next(look_at(bytes, x.place, x.end, limits, &dones))
 }

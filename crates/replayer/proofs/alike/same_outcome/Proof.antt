@@ -1,7 +1,8 @@
 use mathlib.Core.Path.{_≡_, ap, _∙_}
 use denote.Ref.{now}
 use borrow.Author.Needs.{needs}
-use Rattle.replayer.specs.Alike.{Comparison, playOf}
+use Rattle.replayer.specs.Alike.{Comparison}
+use Rattle.replayer.specs.ToEnd.{playOf}
 use Rattle.replayer.specs.AlikeTurn.{compares, first-away, second-away, first-entries, second-entries, both-play}
 use Rattle.replayer.proofs.alike.same_outcome.Statement.{statement}
 use Rattle.replayer.proofs.alike.same_outcome.Tie as tie

@@ -1,5 +1,7 @@
+use mathlib.Core.Path.{refl, sym, _∙_}
+use denote.Ref.{now}
+use Rattle.replayer.specs.Look.{look-next}
 use borrow.Author.Needs.{needs}
-use Rattle.replayer.specs.Next.{nextOf, entryNext}
 use Rattle.replayer.proofs.next.next_of.Statement.{statement}
 use Rattle.replayer.proofs.next.next_of.Tie as tie
 
@@ -9,12 +11,20 @@ mul-x c = search needs
 element-copy-out-x : tie.Need-element-copy-out-x
 element-copy-out-x c = search needs
 
-next-at-requires : tie.Need-next-at-requires
-next-at-requires c κs = search needs
+dones-of-requires : tie.Need-dones-of-requires
+dones-of-requires c κs = search needs
+
+look-at-requires : tie.Need-look-at-requires
+look-at-requires c κs = search needs
+
+as-next-requires : tie.Need-as-next-requires
+as-next-requires c κs = search needs
 
 returns : tie.Need-returns
-unfolding nextOf entryNext
-returns c = c .next-at .ensures
+returns c = let a = c .before .before .before .before .before .before .args in
+    c .as-next .ensures ∙ look-next (a .t1) (now (a .bytes)) (a .task) _ _ _ (record { task = refl; limits = refl; counts = sym (c .before .before .before .dones-of .ensures) }) _ (c .before .look-at .ensures)
 
 pub next-of-spec : {M : Type 1} → statement M
-next-of-spec = tie.close (tie.spec mul-x element-copy-out-x next-at-requires returns)
+next-of-spec =
+    tie.close
+    (tie.spec mul-x element-copy-out-x dones-of-requires look-at-requires as-next-requires returns)

@@ -2,10 +2,10 @@ use mathlib.Core.Path.{_≡_, ap, _∙_}
 use native.Mathlib.Omega.{arith}
 use denote.Ref.{now}
 use borrow.Author.Needs.{needs}
-use Rattle.replayer.specs.AlikeTurn.{Playable, playable, plays, same-play}
+use Rattle.replayer.specs.ToEndTurn.{Playable, playable, plays, same-play}
 use Rattle.replayer.specs.Finish.{Play, shownPlay}
-use Rattle.replayer.proofs.alike.play.Statement.{statement}
-use Rattle.replayer.proofs.alike.play.Tie as tie
+use Rattle.replayer.proofs.to_end.play.Statement.{statement}
+use Rattle.replayer.proofs.to_end.play.Tie as tie
 
 can-play : (c : tie.After-begin-arg) → let a = c .before .before .before .args in Playable (now (a .bytes)) (now (a .memory)) (a .l)
 can-play c =
