@@ -83,7 +83,7 @@ pub(crate) fn look_at(
 }
 
 // The counts done, one for each task.
-pub(crate) fn dones_of(run: Run) -> [usize; 16]
+pub fn dones_of(run: Run) -> [usize; 16]
     ensures { λ r. ⌜ r ≡ donesOf (run .runs) ⌝ }
 {
     let mut dones = [0usize; 16];

@@ -57,7 +57,7 @@ fn visit(
 }
 
 // The first task that is ready, with its access and the place behind it.
-pub(crate) fn pick_lowest(
+pub fn pick_lowest(
     run: Run,
     bytes: &[u8],
     dones: &[usize; 16],
