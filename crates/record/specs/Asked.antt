@@ -14,20 +14,15 @@ isNumber f = ltb f none
 abbrev pub malformedLine : Asked
 malformedLine = record { good = false; task = 0; object = 0; sort = 0; value = 0 }
 
-unfoldable pub readBy : ℕ → ℕ → ℕ → Asked
-readBy t l o =
-    cond (eqb l readField && (isNumber t && isNumber o))
-    (record { good = true; task = t; object = o; sort = 0; value = 0 })
+-- an access whose letter is right or not; the numbers must be numbers
+unfoldable pub askedBy : Bool → ℕ → ℕ → ℕ → ℕ → Asked
+askedBy right t o v sort =
+    cond (right && (isNumber t && (isNumber o && isNumber v)))
+    (record { good = true; task = t; object = o; sort = sort; value = v })
     malformedLine
 
-unfoldable pub writeBy : ℕ → ℕ → ℕ → ℕ → Asked
-writeBy t l o v =
-    cond (eqb l writeField && (isNumber t && (isNumber o && isNumber v)))
-    (record { good = true; task = t; object = o; sort = 1; value = v })
-    malformedLine
-
--- three fields or four
+-- three fields or four; the sort is 0 for a read and 1 for a write
 unfoldable pub askedOf : List ℕ → Asked
 askedOf f =
-    cond (eqb (length f) 3) (readBy (getD f 0 0) (getD f 1 0) (getD f 2 0))
-    (cond (eqb (length f) 4) (writeBy (getD f 0 0) (getD f 1 0) (getD f 2 0) (getD f 3 0)) malformedLine)
+    cond (eqb (length f) 3) (askedBy (eqb (getD f 1 0) readField) (getD f 0 0) (getD f 2 0) 0 0)
+    (cond (eqb (length f) 4) (askedBy (eqb (getD f 1 0) writeField) (getD f 0 0) (getD f 2 0) (getD f 3 0) 1) malformedLine)

@@ -4,13 +4,15 @@ use mathlib.Core.List.{List}
 use Prim.Native.Nat.{ℕ, _≤_}
 use native.Mathlib.Omega.{arith}
 use borrow.Author.Tests.{eq-eqb, ne-eqb}
+use lib.Dec.{eqb}
 use lib.ListN.{length, getD}
 use Rattle.codec.specs.Store.{store}
-use Rattle.record.specs.Asked.{malformedLine, readBy, writeBy, askedOf}
+use Rattle.record.specs.Asked.{malformedLine, askedBy, askedOf}
+use Rattle.record.specs.Fields.{readField, writeField}
 use Rattle.record.specs.RowTurn.{row-at}
 
 module _ (row f : List ℕ) (h : 4 ≤ length row) where
-  pub asked-three : length f ≡ 3 → readBy (getD (store row 0 f) 0 0) (getD (store row 0 f) 1 0) (getD (store row 0 f) 2 0) ≡ askedOf f
+  pub asked-three : length f ≡ 3 → askedBy (eqb (getD (store row 0 f) 1 0) readField) (getD (store row 0 f) 0 0) (getD (store row 0 f) 2 0) 0 0 ≡ askedOf f
   unfolding askedOf
   asked-three e = rw (
     row-at row f 0 (omega arith) (omega arith),
@@ -20,7 +22,7 @@ module _ (row f : List ℕ) (h : 4 ≤ length row) where
   )
 
   pub asked-four : length f ≡ 4
-      → writeBy (getD (store row 0 f) 0 0) (getD (store row 0 f) 1 0) (getD (store row 0 f) 2 0) (getD (store row 0 f) 3 0) ≡ askedOf f
+      → askedBy (eqb (getD (store row 0 f) 1 0) writeField) (getD (store row 0 f) 0 0) (getD (store row 0 f) 2 0) (getD (store row 0 f) 3 0) 1 ≡ askedOf f
   unfolding askedOf
   asked-four e = rw (
     row-at row f 0 (omega arith) (omega arith),

@@ -12,7 +12,7 @@ pub mod AskedTurn
 pub mod Session
 pub mod Room
 pub mod Progress
-pub mod ProgressTurn
+pub mod LogTurn
 pub mod FedTurn
 pub mod Packed
 pub mod PackedTurn

@@ -6,7 +6,6 @@ use lib.Dec.{eqb}
 use lib.ListN.{length, getD}
 use Rattle.reader.specs.Parse.{allBelow}
 use Rattle.record.specs.declared.rows.Sizes.{Sizes}
-use Rattle.record.specs.Asked.{isNumber}
 use Rattle.record.specs.Number.{none}
 
 -- so many numbers

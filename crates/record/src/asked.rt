@@ -2,7 +2,7 @@
 ghost use mathlib.Core.Path.{_≡_};
 ghost use Prim.Native.Nat.{_≤_};
 ghost use lib.ListN.{length};
-ghost use Rattle.record.specs.Asked.{malformedLine, readBy, writeBy, askedOf};
+ghost use Rattle.record.specs.Asked.{malformedLine, askedBy, askedOf};
 ghost use Rattle.record.specs.Fields.{fieldsOf};
 use crate::words::NONE;
 use crate::words::READ;
@@ -30,33 +30,11 @@ fn malformed() -> Asked
     }
 }
 
-// `task R object`
-fn read_of(task: u64, letter: u64, object: u64) -> Asked
-    ensures { λ r. ⌜ r ≡ readBy task letter object ⌝ }
+// An access whose letter is right or not; the numbers must be numbers.
+fn asked_by(right: bool, task: u64, object: u64, value: u64, sort: u32) -> Asked
+    ensures { λ r. ⌜ r ≡ askedBy right task object value sort ⌝ }
 {
-    if letter != READ {
-        return malformed();
-    }
-    if NONE <= task {
-        return malformed();
-    }
-    if NONE <= object {
-        return malformed();
-    }
-    Asked {
-        good: true,
-        task: task as usize,
-        object: object as usize,
-        sort: 0,
-        value: 0,
-    }
-}
-
-// `task W object value`
-fn write_of(task: u64, letter: u64, object: u64, value: u64) -> Asked
-    ensures { λ r. ⌜ r ≡ writeBy task letter object value ⌝ }
-{
-    if letter != WRITE {
+    if !right {
         return malformed();
     }
     if NONE <= task {
@@ -72,12 +50,12 @@ fn write_of(task: u64, letter: u64, object: u64, value: u64) -> Asked
         good: true,
         task: task as usize,
         object: object as usize,
-        sort: 1,
+        sort,
         value: value as u32,
     }
 }
 
-// The access that a line asks for.
+// The access that a line asks for: `task R object` or `task W object value`.
 pub(crate) fn asked_of(line: &[u8]) -> Asked
     requires { ⌜ length (now line) ≤ 1048576 ⌝ }
     ensures { λ r. ⌜ r ≡ askedOf (fieldsOf (now (line .entry))) ⌝ }
@@ -85,10 +63,10 @@ pub(crate) fn asked_of(line: &[u8]) -> Asked
     let mut row = [0u64; 4];
     let n = fields(line, &mut row);
     if n == 3 {
-        return read_of(row[0], row[1], row[2]);
+        return asked_by(row[1] == READ, row[0], row[2], 0, 0);
     }
     if n == 4 {
-        return write_of(row[0], row[1], row[2], row[3]);
+        return asked_by(row[1] == WRITE, row[0], row[2], row[3], 1);
     }
     malformed()
 }

@@ -4,8 +4,6 @@ use Rattle.record.specs.Lines.{passed-empty, passed-some}
 use borrow.Author.Needs.{needs}
 use Rattle.record.proofs.lines.is_passed.Statement.{statement}
 use Rattle.record.proofs.lines.is_passed.Tie as tie
-use Rattle.record.proofs.lines.is_passed.Reads as reads
-use Rattle.record.proofs.lines.is_passed.Lts as lts
 
 returns : tie.Need-returns
 returns c = sym (passed-empty (now (c .before .args .line)) (c .if1 .taken))

@@ -10,10 +10,6 @@ use Rattle.record.specs.Lines.{linesFrom, lineBehind, line-held, line-pa
 use borrow.Author.Needs.{needs}
 use Rattle.record.proofs.lines.next_line.Statement.{statement}
 use Rattle.record.proofs.lines.next_line.Tie as tie
-use Rattle.record.proofs.lines.next_line.Reads as reads
-use Rattle.record.proofs.lines.next_line.Lts as lts
-use Rattle.bytes.proofs.scan.find.Reads as find-reads
-use Rattle.record.proofs.lines.is_passed.Reads as is-passed-reads
 
 abbrev Inv-loop : tie.InvT-loop
 Inv-loop text at first from₀ number₀ from number = (from ≤ length text + 1) × (at ≤ from) × (number ≤ from + 1) × (linesFrom number from text ≡ linesFrom first at text) × (lineBehind number from text ≡ lineBehind first at text)

@@ -7,10 +7,6 @@ use Rattle.record.specs.RowTurn.{row-judged}
 use borrow.Author.Needs.{needs}
 use Rattle.record.proofs.rows.is_row.Statement.{statement}
 use Rattle.record.proofs.rows.is_row.Tie as tie
-use Rattle.record.proofs.rows.is_row.Reads as reads
-use Rattle.record.proofs.rows.is_row.Lts as lts
-use Rattle.record.proofs.rows.numbers_in.Reads as numbers-in-reads
-use Rattle.record.proofs.words.fields.Reads as fields-reads
 
 fields-requires : tie.Need-fields-requires
 fields-requires c κs = search needs

@@ -9,8 +9,6 @@ use Rattle.record.specs.Number.{none}
 use borrow.Author.Needs.{needs}
 use Rattle.record.proofs.rows.numbers_in.Statement.{statement}
 use Rattle.record.proofs.rows.numbers_in.Tie as tie
-use Rattle.record.proofs.rows.numbers_in.Reads as reads
-use Rattle.record.proofs.rows.numbers_in.Lts as lts
 
 abbrev Inv-loop : tie.InvT-loop
 Inv-loop row i₀ i-end i = (i ≤ length row) × (allBelow none (drop i row) ≡ allBelow none row)

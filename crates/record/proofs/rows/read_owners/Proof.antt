@@ -9,10 +9,6 @@ use Rattle.record.specs.Rows.{ownersOf}
 use borrow.Author.Needs.{needs}
 use Rattle.record.proofs.rows.read_owners.Statement.{statement}
 use Rattle.record.proofs.rows.read_owners.Tie as tie
-use Rattle.record.proofs.rows.read_owners.Reads as reads
-use Rattle.record.proofs.rows.read_owners.Lts as lts
-use Rattle.record.proofs.rows.is_row.Reads as is-row-reads
-use Rattle.record.proofs.rows.set_owners.Reads as set-owners-reads
 
 slice-aggregate-is-row : tie.Need-slice-aggregate-is-row
 slice-aggregate-is-row c = search needs

@@ -1,19 +1,13 @@
 use mathlib.Core.Bool.{true≢false}
-use mathlib.Core.Path.{sym, ap, _∙_}
+use mathlib.Core.Path.{sym, _∙_}
 use native.Mathlib.Omega.{arith}
 use borrow.Author.Tests.{not-true, not-false}
 use lib.ListN.{length-take, length-replicate}
 use lib.Seq.{length-take-le}
 use Rattle.record.specs.RowTurn.{row-fields, row-facts}
-use Rattle.reader.specs.Parse.{allBelow}
-use Rattle.record.specs.Number.{none}
 use borrow.Author.Needs.{needs}
 use Rattle.record.proofs.rows.read_starts.Statement.{statement}
 use Rattle.record.proofs.rows.read_starts.Tie as tie
-use Rattle.record.proofs.rows.read_starts.Reads as reads
-use Rattle.record.proofs.rows.read_starts.Lts as lts
-use Rattle.record.proofs.rows.is_row.Reads as is-row-reads
-use Rattle.record.proofs.rows.set_starts.Reads as set-starts-reads
 
 slice-aggregate-is-row : tie.Need-slice-aggregate-is-row
 slice-aggregate-is-row c = search needs

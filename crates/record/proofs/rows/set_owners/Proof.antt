@@ -9,9 +9,6 @@ use Rattle.record.specs.RowTurn.{map-on}
 use borrow.Author.Needs.{needs}
 use Rattle.record.proofs.rows.set_owners.Statement.{statement}
 use Rattle.record.proofs.rows.set_owners.Tie as tie
-use Rattle.record.proofs.rows.set_owners.Reads as reads
-use Rattle.record.proofs.rows.set_owners.Lts as lts
-use Rattle.record.proofs.rows.owner.Reads as owner-reads
 
 abbrev Inv-loop : tie.InvT-loop
 Inv-loop row owners₀ i₀ i-end owners i = (i ≤ length row) × (length owners ≡ length owners₀) × (take i owners ≡ ownersOf (take i row))

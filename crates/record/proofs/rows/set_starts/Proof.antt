@@ -9,8 +9,6 @@ use Rattle.record.specs.RowTurn.{below-at}
 use borrow.Author.Needs.{needs}
 use Rattle.record.proofs.rows.set_starts.Statement.{statement}
 use Rattle.record.proofs.rows.set_starts.Tie as tie
-use Rattle.record.proofs.rows.set_starts.Reads as reads
-use Rattle.record.proofs.rows.set_starts.Lts as lts
 
 abbrev Inv-loop : tie.InvT-loop
 Inv-loop row starts₀ i₀ i-end starts i = (i ≤ length row) × (length starts ≡ length starts₀) × (take i starts ≡ take i row)

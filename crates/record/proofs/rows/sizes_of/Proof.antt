@@ -6,9 +6,6 @@ use Rattle.record.specs.RowTurn.{sizes-so}
 use borrow.Author.Needs.{needs}
 use Rattle.record.proofs.rows.sizes_of.Statement.{statement}
 use Rattle.record.proofs.rows.sizes_of.Tie as tie
-use Rattle.record.proofs.rows.sizes_of.Reads as reads
-use Rattle.record.proofs.rows.sizes_of.Lts as lts
-use Rattle.record.proofs.rows.is_row.Reads as is-row-reads
 
 slice-aggregate-is-row : tie.Need-slice-aggregate-is-row
 slice-aggregate-is-row c = search needs

@@ -4,8 +4,6 @@ use Rattle.record.specs.Number.{digit-low, digit-high, digit-some}
 use borrow.Author.Needs.{needs}
 use Rattle.record.proofs.words.digit_on.Statement.{statement}
 use Rattle.record.proofs.words.digit_on.Tie as tie
-use Rattle.record.proofs.words.digit_on.Reads as reads
-use Rattle.record.proofs.words.digit_on.Lts as lts
 
 returns : tie.Need-returns
 returns c = let e = digit-low (c .before .args .value) (c .before .args .byte) (c .if1 .taken) in (sym e, omega arith)

@@ -5,9 +5,6 @@ use Rattle.record.specs.Fields.{field-read, field-write, field-number}
 use borrow.Author.Needs.{needs}
 use Rattle.record.proofs.words.field.Statement.{statement}
 use Rattle.record.proofs.words.field.Tie as tie
-use Rattle.record.proofs.words.field.Reads as reads
-use Rattle.record.proofs.words.field.Lts as lts
-use Rattle.record.proofs.words.number.Reads as number-reads
 
 number-requires : tie.Need-number-requires
 number-requires c κs = search needs

@@ -8,11 +8,6 @@ use Rattle.record.specs.FieldsTurn.{Reads, reads-none, reads-more, reads
 use borrow.Author.Needs.{needs}
 use Rattle.record.proofs.words.fields.Statement.{statement}
 use Rattle.record.proofs.words.fields.Tie as tie
-use Rattle.record.proofs.words.fields.Reads as reads
-use Rattle.record.proofs.words.fields.Lts as lts
-use Rattle.bytes.proofs.scan.find.Reads as find-reads
-use Rattle.record.proofs.words.field.Reads as field-reads
-use Rattle.record.proofs.words.put_field.Reads as put-field-reads
 
 abbrev Inv-loop : tie.InvT-loop
 Inv-loop line out₀ count₀ at₀ out count at = (at ≤ length line + 1) × (count ≤ at) × (length out ≡ length out₀) × Reads line out₀ at count out

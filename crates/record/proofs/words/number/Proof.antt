@@ -7,9 +7,6 @@ use Rattle.record.specs.Number.{digitsOn, numberOf, number-empty, number
 use borrow.Author.Needs.{needs}
 use Rattle.record.proofs.words.number.Statement.{statement}
 use Rattle.record.proofs.words.number.Tie as tie
-use Rattle.record.proofs.words.number.Reads as reads
-use Rattle.record.proofs.words.number.Lts as lts
-use Rattle.record.proofs.words.digit_on.Reads as digit-on-reads
 
 abbrev Inv-loop : tie.InvT-loop
 Inv-loop word value₀ i₀ i-end value i = (i ≤ length word) × (value ≤ 4294967296) × (digitsOn value (drop i word) ≡ numberOf word)

@@ -4,8 +4,6 @@ use lib.Seq.{set-out}
 use borrow.Author.Needs.{needs}
 use Rattle.record.proofs.words.put_field.Statement.{statement}
 use Rattle.record.proofs.words.put_field.Tie as tie
-use Rattle.record.proofs.words.put_field.Reads as reads
-use Rattle.record.proofs.words.put_field.Lts as lts
 
 mul-out : tie.Need-mul-out
 mul-out c = search needs
