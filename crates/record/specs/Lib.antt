@@ -18,3 +18,5 @@ pub mod Packed
 pub mod PackedTurn
 pub mod RecordOf
 pub mod RecordTurn
+pub mod Whole
+pub mod WholeText
