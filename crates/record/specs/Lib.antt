@@ -18,5 +18,6 @@ pub mod Packed
 pub mod PackedTurn
 pub mod RecordOf
 pub mod RecordTurn
-pub mod Whole
+pub mod Ran
+pub mod WholeRecording
 pub mod WholeText

@@ -1,135 +1,81 @@
--- The recording of a text that nothing stopped is that of a whole run (document 01, "Whole runs"): no section is turned away, and
--- demand 3 holds of it by `fidelity`'s theorem.
-use mathlib.Core.Path.{_≡_, refl, ap, _∙_, sym}
-use mathlib.Core.List.{List, [], _∷_, _++_}
-use Prim.Native.Nat.{ℕ, zero, suc, _+_, _*_, _-_, _<_, _≤_}
-use native.Mathlib.Numerals.{add-one}
+-- Every text whose answer is a recording: the recording is that of a whole run, to which demand 3 applies.
+use mathlib.Core.Path.{_≡_}
+use mathlib.Core.List.{List, [], _∷_}
+use Prim.Native.Nat.{ℕ, _+_, _≤_}
 use native.Mathlib.Omega.{arith}
-use borrow.Author.Tests.{eq-eqb, eqb-true, eqb-false}
+use borrow.Author.Tests.{eqb-true, eqb-false}
 use lib.Dec.{eqb}
-use lib.ListN.{length, take, replicate, length-append, length-replicate}
+use lib.ListN.{length}
 use Rattle.codec.specs.Decide.{passes, fails, split}
-use Rattle.codec.specs.Encode.{head, head-length, section-length}
-use Rattle.codec.specs.Kind.{headLength, sectionKind, lengthOf}
 use Rattle.reader.specs.Range.{AllUnder}
-use Rattle.recorder.specs.OpenOf.{openNumber, opened, openOf}
-use Rattle.recorder.specs.OpenTurn.{open-facts}
-use Rattle.recorder.specs.SectionOf.{sectionBytes, sectionChecked, sectionOf}
-use Rattle.recorder.specs.SectionTurn.{section-facts}
-use Rattle.recorder.specs.WholeRun.{Box, calledAll}
-use Rattle.recorder.specs.WholeRun.{packed as packedWhole}
-use Rattle.tracker.specs.declared.State.{State}
-use Rattle.fidelity.specs.Box.{Opening, openedBy, Asked, firstBox, lastBox, recordingOf}
-use Rattle.fidelity.specs.BoxMatches.{sections-accepted}
-use Rattle.fidelity.specs.Statement.{Accepted}
-use Rattle.fidelity.specs.Theorem.{acceptance}
-use Rattle.record.specs.Lines.{Line}
-use Rattle.record.specs.Packed.{packed}
-use Rattle.record.specs.RecordOf.{Outcome, begun, finished, opening, withOpening}
-use Rattle.record.specs.Room.{stored, opening-facts}
-use Rattle.record.specs.Session.{Session, most, fedAll}
-use Rattle.record.specs.Whole.{sumLogs, sum-none, Ran, ran-all}
+use Rattle.reader.specs.Strict.{below-under}
+use Rattle.record.specs.Fields.{fieldsOf}
+use Rattle.record.specs.Lines.{Line, linesOf, isPassed, numbered}
+use Rattle.record.specs.RecordOf.{stopOf, begun, finished, opening, withOpening, withOwners, withSizes, rangeOf, withLines, recordOf}
+use Rattle.record.specs.RowTurn.{row-facts}
+use Rattle.record.specs.Rows.{isRow, sizesOf, ownersOf}
+use Rattle.record.specs.Session.{fedAll}
+use Rattle.record.specs.WholeRecording.{WholeRecording, whole-recording}
 
--- an output for each section that just holds it
-abbrev pub outsOf : Box → ℕ → List ℕ
-outsOf b t = replicate (12 + length (b .logs t)) 0
+-- lines are numbered from 1, so a line that stopped a text is told from none
+unfoldable Numbered : List Line → Type 0
+Numbered [] = Unit {0}
+Numbered (l ∷ ls) = (1 ≤ l .number) × Numbered ls
 
--- the bytes are a whole run's recording, with everything accepted
-pub record WholeRecording (bytes : List ℕ) : Type 0 where
-  pub opening : Opening
-  pub asked : List Asked
-  pub is : bytes ≡ recordingOf opening asked (outsOf (lastBox opening asked))
-  pub accepted : (memory : List ℕ) → length memory ≡ opening .objects → Accepted opening asked (outsOf (lastBox opening asked)) memory
-
-section-made : (s : State) (t : ℕ) (log out : List ℕ) → sectionOf s t log out .answer .number ≡ 0
-    → (sectionOf s t log out .answer .written ≡ 12 + length log) × (take (sectionOf s t log out .answer .written) (sectionOf s t log out .out) ≡ sectionBytes s t log)
-unfolding sectionOf
-section-made s t log out z = elim (split (eqb (sectionChecked s t log (length out) .number) 0)) [
-  | fails p ↦ absurd (eqb-false _ _ p (rw p at z))
-  | passes p ↦
-      let f = section-facts s t log (length out) (eqb-true _ _ p) in
-      let e : length (sectionBytes s t log) ≡ lengthOf sectionKind + length log = rw (length-append, section-length) in
-      rw p (refl, stored out _ _ e (f .room))
+numbered-from : (n : ℕ) (ls : List (List ℕ)) → 1 ≤ n → Numbered (numbered n ls)
+unfolding numbered Numbered
+numbered-from n [] h = tt
+numbered-from n (l ∷ ls) h = elim (split (isPassed l)) [
+  | passes p ↦ rw p (numbered-from (n + 1) ls (omega arith))
+  | fails p ↦ rw p (h, numbered-from (n + 1) ls (omega arith))
 ]
 
-sum-suc : (logs : ℕ → List ℕ) (t : ℕ) → sumLogs logs (suc t) ≡ sumLogs logs t + length (logs t)
-unfolding sumLogs
-sum-suc logs t = refl
+stop-none : (line number : ℕ) → 1 ≤ line → stopOf line number .answer .line ≡ 0 → WholeRecording (stopOf line number .bytes)
+stop-none line number h e = absurd (let z : ⊥ = omega arith in z)
 
-sum-zero : (logs : ℕ → List ℕ) → sumLogs logs 0 ≡ 0
-unfolding sumLogs
-sum-zero logs = refl
-
-sum-rises : (logs : ℕ → List ℕ) (t d : ℕ) → sumLogs logs t ≤ sumLogs logs (t + d)
-unfolding sumLogs
-sum-rises logs t zero = let e : t + 0 ≡ t = omega arith in rw e (omega arith)
-sum-rises logs t (suc d) = let e : t + suc d ≡ suc (t + d) = omega arith in rw e (omega (arith, sum-rises logs t d))
-
-sum-next : (logs : ℕ → List ℕ) (t k : ℕ) → sumLogs logs t + length (logs t) ≤ sumLogs logs (t + suc k)
-unfolding sumLogs
-sum-next logs t k = let e : t + suc k ≡ suc t + k = omega arith in rw e (sum-rises logs (suc t) k)
-
-module _ (o : Opening) (z : openedBy o .answer .number ≡ 0) (asked : List Asked) (head : ℕ) (room : head + 12 * o .tasks + sumLogs (lastBox o asked .logs) (o .tasks) ≤ most) where
-  packed-all : (t k at : ℕ) → t + k ≡ o .tasks → at ≡ head + 12 * t + sumLogs (lastBox o asked .logs) t
-      → packed (lastBox o asked .state) (lastBox o asked .logs) at t k ≡ packedWhole (lastBox o asked .state) (lastBox o asked .logs) (outsOf (lastBox o asked)) t k
-  unfolding packed packedWhole
-  packed-all t zero at h e = refl
-  packed-all t (suc k) at h e =
-      let b = lastBox o asked in
-      let n : sumLogs (b .logs) t + length (b .logs t) ≤ sumLogs (b .logs) (o .tasks) = rw h at (sum-next (b .logs) t k) in
-      let i = sections-accepted o z asked t (omega arith) (replicate (most - at) 0) (rw (length-replicate {A = ℕ} (most - at) 0) (omega (arith, n, room, e))) in
-      let j = sections-accepted o z asked t (omega arith) (outsOf b t) (rw (length-replicate {A = ℕ} (12 + length (b .logs t)) 0) (omega arith)) in
-      let x = section-made (b .state) t (b .logs t) (replicate (most - at) 0) i in
-      let y = section-made (b .state) t (b .logs t) (outsOf b t) j in
-      let g = packed-all (suc t) k (at + (12 + length (b .logs t))) (omega arith) (omega (arith, e, sum-suc (b .logs) t)) in
-      rw (x .1, y .1, x .0, add-one t, g)
-
-box-none : (b : Box) → b ≡ calledAll b []
-unfolding calledAll
-box-none b = refl
-
--- an opening writes as many bytes as it says
-head-size : (tasks objects : ℕ) (owners starts memory out : List ℕ) → openOf tasks objects owners starts memory out .answer .number ≡ 0
-    → length (take (openOf tasks objects owners starts memory out .answer .written) (openOf tasks objects owners starts memory out .out)) ≡ openOf tasks objects owners starts memory out .answer .written
-unfolding openOf opened
-head-size tasks objects owners starts memory out z =
-    elim (split (eqb (openNumber tasks objects owners (length starts) (length memory) (length out)) 0)) [
-      | fails p ↦ absurd (eqb-false _ _ p (rw p at z))
-      | passes p ↦
-          let f = open-facts tasks objects owners (length starts) (length memory) (length out) (eqb-true _ _ p) in
-          let e : length (head tasks owners starts) ≡ headLength objects = head-length tasks owners starts (omega (arith, f .owner-each, f .start-each)) ∙ ap headLength (f .owner-each) in
-          rw (p, stored out _ _ e (f .room), e)
+opening-whole : (tasks line : ℕ) (owners starts : List ℕ) (ls : List Line) → AllUnder 4294967296 starts → 1 ≤ line
+    → withOpening tasks line (opening tasks owners starts) ls .answer .line ≡ 0 → WholeRecording (withOpening tasks line (opening tasks owners starts) ls .bytes)
+unfolding withOpening finished
+opening-whole tasks line owners starts ls under k e =
+    let o = opening tasks owners starts in
+    elim (split (eqb (o .answer .number) 0)) [
+      | fails p ↦ rw p (stop-none line (o .answer .number) k (rw p at e))
+      | passes p ↦ elim (split (eqb (fedAll (begun (o .answer .state) (o .memory) (o .answer .written) tasks) ls .line) 0)) [
+        | passes q ↦ whole-recording tasks line owners starts ls under (eqb-true _ _ p) (eqb-true _ _ q)
+        | fails q ↦ absurd (eqb-false _ _ q (rw (p, q) at e))
+      ]
     ]
 
-module _ (tasks line : ℕ) (owners starts : List ℕ) (ls : List Line) (under : AllUnder 4294967296 starts) (z : opening tasks owners starts .answer .number ≡ 0) where
-  abbrev opened-by : Opening
-  opened-by = record { tasks = tasks; objects = length owners; owners = owners; starts = starts; memory = replicate (length owners) 0; out = replicate most 0; fits = under }
+owners-whole : (missing tasks line : ℕ) (owners : List ℕ) (ls : List Line) → 1 ≤ missing → 1 ≤ line → Numbered ls
+    → withOwners missing tasks line owners ls .answer .line ≡ 0 → WholeRecording (withOwners missing tasks line owners ls .bytes)
+unfolding withOwners Numbered
+owners-whole missing tasks line owners [] h k n e = stop-none missing 0 h e
+owners-whole missing tasks line owners (l ∷ ls) h k n e = elim (split (isRow (length owners) (fieldsOf (l .bytes)))) [
+  | fails p ↦ rw p (stop-none (l .number) 0 (n .0) (rw p at e))
+  | passes p ↦ rw p (opening-whole tasks line owners (fieldsOf (l .bytes)) ls (below-under _ _ (row-facts _ _ p .1)) k (rw p at e))
+]
 
-  abbrev first : Session
-  first = begun (opening tasks owners starts .answer .state) (opening tasks owners starts .memory) (opening tasks owners starts .answer .written) tasks
+sizes-whole : (missing tasks objects : ℕ) (ls : List Line) → 1 ≤ missing → Numbered ls
+    → withSizes missing tasks objects ls .answer .line ≡ 0 → WholeRecording (withSizes missing tasks objects ls .bytes)
+unfolding withSizes Numbered
+sizes-whole missing tasks objects [] h n e = stop-none missing 0 h e
+sizes-whole missing tasks objects (l ∷ ls) h n e = elim (split (isRow objects (fieldsOf (l .bytes)))) [
+  | fails p ↦ rw p (stop-none (l .number) 0 (n .0) (rw p at e))
+  | passes p ↦ rw p (owners-whole missing tasks (l .number) (ownersOf (fieldsOf (l .bytes))) ls h (n .0) (n .1) (rw p at e))
+]
 
-  first-ran : Ran opened-by z (opening tasks owners starts .answer .written + 12 * tasks) first
-  first-ran =
-      let f = opening-facts tasks (length owners) owners starts (replicate (length owners) 0) (replicate most 0) z in
-      record {
-        asked = [];
-        box = box-none (firstBox opened-by);
-        total = omega (arith, sum-none tasks);
-        fits = omega (arith, f .0 .few-tasks, f .0 .few-objects, f .1);
-      }
+lines-whole : (missing : ℕ) (ls : List Line) → 1 ≤ missing → Numbered ls → withLines missing ls .answer .line ≡ 0 → WholeRecording (withLines missing ls .bytes)
+unfolding withLines Numbered
+lines-whole missing [] h n e = stop-none missing 0 h e
+lines-whole missing (l ∷ ls) h n e =
+    let s = sizesOf (fieldsOf (l .bytes)) in
+    elim (split (s .good)) [
+      | fails p ↦ rw p (stop-none (l .number) 0 (n .0) (rw p at e))
+      | passes p ↦ elim (split (eqb (rangeOf (s .tasks) (s .objects)) 3)) [
+        | fails q ↦ rw (p, q) (stop-none (l .number) (rangeOf (s .tasks) (s .objects)) (n .0) (rw (p, q) at e))
+        | passes q ↦ rw (p, q) (sizes-whole missing (s .tasks) (s .objects) ls h (n .1) (rw (p, q) at e))
+      ]
+    ]
 
-  pub whole-recording : fedAll first ls .line ≡ 0 → WholeRecording (withOpening tasks line (opening tasks owners starts) ls .bytes)
-  unfolding withOpening finished
-  whole-recording h =
-      let w = opening tasks owners starts .answer .written in
-      let r = ran-all opened-by z (w + 12 * tasks) first ls first-ran in
-      let b = lastBox opened-by (r .asked) in
-      let q : sumLogs (b .logs) tasks ≡ sumLogs (fedAll first ls .box .logs) tasks = ap (λ (x : Box). sumLogs (x .logs) tasks) (sym (r .box)) in
-      let n = head-size tasks (length owners) owners starts (replicate (length owners) 0) (replicate most 0) z in
-      let g = packed-all opened-by z (r .asked) w (omega (arith, r .total, r .fits, q)) 0 tasks w (omega arith) (omega (arith, sum-zero (b .logs))) in
-      rw (eq-eqb _ _ z, eq-eqb _ _ h, r .box, n) (record {
-        opening = opened-by;
-        asked = r .asked;
-        is = ap (λ (x : List ℕ). take w (opening tasks owners starts .out) ++ x) g;
-        accepted = λ memory each. acceptance opened-by (r .asked) (outsOf b) memory z (λ t l. rw (length-replicate {A = ℕ} (12 + length (b .logs t)) 0) (omega arith)) each;
-      })
+pub whole-text : (text : List ℕ) → recordOf text .answer .line ≡ 0 → WholeRecording (recordOf text .bytes)
+whole-text text e = lines-whole (1 + length (linesOf text)) (numbered 1 (linesOf text)) (omega arith) (numbered-from 1 (linesOf text) (omega arith)) e

@@ -1,22 +1,22 @@
--- A text's accesses are a whole run: its session is that of a list of calls from its opening, so no section is turned away.
+-- A text's session is that of a list of calls from its opening, with the bytes in its logs counted.
 use mathlib.Core.Path.{_≡_, refl, ap, _∙_, sym}
-use mathlib.Core.Bool.{Bool, true, false, cond, _&&_}
+use mathlib.Core.Bool.{Bool, true, cond, _&&_}
 use mathlib.Core.List.{List, [], _∷_, _++_}
-use Prim.Native.Nat.{ℕ, zero, suc, _+_, _*_, _-_, _<_, _≤_}
+use Prim.Native.Nat.{ℕ, zero, suc, _+_, _-_, _<_, _≤_}
 use native.Mathlib.Omega.{arith}
-use borrow.Author.Tests.{eq-eqb, ne-eqb, eqb-true, eqb-false, ltb-true}
-use lib.Dec.{eqb, ltb}
+use borrow.Author.Tests.{ne-eqb, eqb-true, eqb-false, ltb-true}
+use lib.Dec.{eqb}
 use lib.ListN.{length, take, replicate, length-append, length-replicate}
 use Rattle.codec.specs.Decide.{passes, fails, split, both-pass}
 use Rattle.recorder.specs.AccessOf.{isWrite, entryOf, accessNumber, accepted, refused, accessOf}
 use Rattle.recorder.specs.Accepted.{number-takes}
-use Rattle.recorder.specs.WholeRun.{Call, Box, outcome, called, calledAll}
+use Rattle.recorder.specs.WholeRun.{Box, outcome, called, calledAll}
 use Rattle.reader.specs.Bytes.{entry-length}
 use Rattle.tracker.specs.declared.State.{State}
 use Rattle.fidelity.specs.Box.{Opening, openedBy, Asked, callsOf, firstBox, lastBox}
 use Rattle.fidelity.specs.FirstBox.{follows-last}
 use Rattle.record.specs.declared.asked.Asked.{Asked as Line·asked}
-use Rattle.record.specs.Asked.{askedBy, askedOf, malformedLine, isNumber}
+use Rattle.record.specs.Asked.{askedBy, askedOf, isNumber}
 use Rattle.record.specs.Fields.{fieldsOf}
 use Rattle.record.specs.Lines.{Line}
 use Rattle.record.specs.Room.{access-same, stored}
