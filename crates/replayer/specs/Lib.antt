@@ -16,6 +16,7 @@ pub mod NextTurn
 pub mod OpenLaws
 pub mod OpenOf
 pub mod OpenTurn
+pub mod OrderingAt
 pub mod Pick
 pub mod PickLaws
 pub mod ReadyLaws
