@@ -5,10 +5,6 @@ use Prim.Native.Nat.{ℕ}
 use types.Run.{OneOf, miss}
 use denote.Enum.Declared.{tagOf}
 use mathlib.Core.Bool.{true, false}
-use Rattle.codec.proofs.Record.{the-type as record-type}
-use Rattle.codec.specs.declared.Position.{Position}
-use Rattle.codec.specs.declared.Record.{Record}
-use Rattle.codec.specs.declared.Record.the-variants.{Ordering}
 use Rattle.reader.proofs.entry.Found.{the-type as found-type}
 use Rattle.reader.specs.declared.entry.Found.{Found}
 use Rattle.reader.specs.declared.entry.Found.the-variants.{Access as FoundAccess, Refused as FoundRefused}
@@ -26,9 +22,6 @@ use Rattle.replayer.specs.StepOf.{refusedStep, haltOf, onNext}
 pub not-found : (f : Found) → OneOf (1 ∷ []) (tagOf found-type f) → f ≡ FoundRefused (refusalOf f)
 not-found (FoundAccess o a n) h = absurd (miss (1 ∷ []) 0 tt h)
 not-found (FoundRefused c) h = refl
-
-pub not-ordering : (r : Record) (p : Position) → OneOf (0 ∷ 1 ∷ 3 ∷ 4 ∷ []) (tagOf record-type r) → r ≡ Ordering p → ⊥
-not-ordering r p h e = miss (0 ∷ 1 ∷ 3 ∷ 4 ∷ []) 2 tt (rw e at h)
 
 pub not-open : (run : Run) (memory : List ℕ) (task : ℕ) (n : Next) → OneOf (1 ∷ 2 ∷ []) (tagOf next-type n)
     → onNext run memory task n ≡ record { answer = refusedStep run (haltOf n .number) (haltOf n .offset); memory = memory }

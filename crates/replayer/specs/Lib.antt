@@ -16,8 +16,7 @@ pub mod NextTurn
 pub mod OpenLaws
 pub mod OpenOf
 pub mod OpenTurn
-pub mod Pick
-pub mod PickLaws
+pub mod OrderingAt
 pub mod ReadyLaws
 pub mod ReadyOf
 pub mod Run
@@ -27,5 +26,7 @@ pub mod StepOf
 pub mod StepTurn
 pub mod ToEnd
 pub mod ToEndTurn
+pub mod Visit
+pub mod VisitLaws
 pub mod Word
 pub mod WordLaws

@@ -3,7 +3,7 @@ ghost use mathlib.Core.Path.{_≡_};
 ghost use Prim.Native.Nat.{_+_, _<_};
 ghost use lib.ListN.{length};
 ghost use Rattle.reader.specs.Object.{objectOf};
-ghost use Rattle.replayer.specs.Run.{doneOf, movedOf};
+ghost use Rattle.replayer.specs.Run.{doneOf, advanced as advancedOf, movedOf};
 ghost use Rattle.replayer.specs.Memory.{kindOf, valueOf, performed};
 ghost use Rattle.replayer.specs.StepOf.{refusedStep, barredOf, haltOf};
 use crate::Run;
@@ -108,6 +108,19 @@ pub(crate) fn perform(op: Op, memory: &mut [u32]) -> u32
             memory[o] = value;
             value
         }
+    }
+}
+
+// A task goes on to a place, with one more access done.
+pub(crate) fn advanced(x: TaskRun, next: usize) -> TaskRun
+    requires { ⌜ x .done < x .count ⌝ }
+    ensures { λ r. ⌜ r ≡ advancedOf x next ⌝ }
+{
+    TaskRun {
+        place: next,
+        end: x.end,
+        done: x.done + 1,
+        count: x.count,
     }
 }
 

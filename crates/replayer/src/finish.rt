@@ -5,9 +5,12 @@ ghost use Rattle.replayer.specs.Finish.{leftOver, finishOf, shownPlay, t
 ghost use Rattle.replayer.specs.FinishLaws.{Playing};
 use crate::Run;
 use crate::TaskRun;
+use crate::effect::advanced;
 use crate::effect::perform;
+use crate::next::Next;
 use crate::next::dones_of;
-use crate::pick::pick_lowest;
+use crate::visit::visit;
+use reader::Limits;
 
 // Where a run ended or stuck, and the steps that it took.
 pub struct Played {
@@ -15,7 +18,8 @@ pub struct Played {
     pub steps: usize,
 }
 
-// Each step leaves one access fewer, so the loop ends and the count of steps fits.
+// The first task that is open is the lowest that is ready: it is stepped in place, and the tasks are visited from 0 again. Each step
+// leaves one access fewer, so the loop ends and the count of steps fits.
 pub(crate) fn finish(run: Run, bytes: &[u8], memory: &mut [u32]) -> Played
     requires { ⌜ Playing (now bytes) (record { run = run; memory = now memory; steps = 0 }) ⌝ }
     requires { ⌜ leftOver run < 18446744073709551616 ⌝ }
@@ -27,26 +31,27 @@ pub(crate) fn finish(run: Run, bytes: &[u8], memory: &mut [u32]) -> Played
     let mut dones = dones_of(run);
     let mut sources = [0usize; 16];
     let mut numbers = [0usize; 16];
-    loop {
-        let p = pick_lowest(at, bytes, &dones, &mut sources, &mut numbers);
-        let task = p.task;
-        if task == 16 {
-            return Played { run: at, steps };
-        }
-        let op = p.op;
-        perform(op, memory);
-        let x = at.runs[task];
-        let done = x.done + 1;
-        let y = TaskRun {
-            place: p.next,
-            end: x.end,
-            done,
-            count: x.count,
+    let mut t: usize = 0;
+    while t < at.tasks {
+        let x = at.runs[t];
+        let limits = Limits {
+            tasks: at.tasks,
+            objects: at.objects,
+            own: t,
         };
-        at.runs[task] = y;
-        dones[task] = done;
-        steps += 1;
+        let n = visit(x, bytes, limits, &dones, &mut sources, &mut numbers);
+        if let Next::Open { op, next } = n {
+            perform(op, memory);
+            let y = advanced(x, next);
+            at.runs[t] = y;
+            dones[t] = y.done;
+            steps += 1;
+            t = 0;
+        } else {
+            t += 1;
+        }
     }
+    Played { run: at, steps }
 }
 
 // The tasks below T that a run has; a run that is not sound may name more.

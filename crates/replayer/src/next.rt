@@ -13,9 +13,7 @@ ghost use Rattle.replayer.specs.Next.{refusalOf, nextOf};
 use crate::Run;
 use codec::Op;
 use codec::Position;
-use codec::Record;
-use codec::number::BODY;
-use codec::read::record;
+use codec::field::get16;
 use reader::Checked;
 use reader::Limits;
 use reader::entry::Found;
@@ -52,8 +50,8 @@ fn refusal(f: Found) -> Checked
     }
 }
 
-// The group from a place up to a body's end, held to the counts done: all of it is read before an ordering is judged, so the first
-// record that is no ordering is the access.
+// The group from a place up to a body's end, held to the counts done. All of it is read before an ordering is judged, so up to
+// the access's record there are orderings, of which the source and the number are all that is looked at again.
 pub(crate) fn look_at(
     bytes: &[u8],
     from: usize,
@@ -65,21 +63,24 @@ pub(crate) fn look_at(
     ensures { λ r. ⌜ Looks limits (now (dones .entry)) from (entryOf limits (stop inBody from) from (part from end (now (bytes .entry)))) r ⌝ }
 {
     let f = entry_at(bytes, from, end, limits);
-    let Found::Access { op, at: _, next } = f else {
+    let Found::Access { op, at, next } = f else {
         return Look::Refused(refusal(f));
     };
     let mut place = from;
-    loop {
-        let r = record(&bytes[place..end], BODY);
-        let Record::Ordering(p) = r else {
-            return Look::Open { op, next };
-        };
-        let source = p.task as usize;
-        if dones[source] < p.number as usize {
+    while place < at {
+        let source = get16(bytes, place + 4);
+        let number = get16(bytes, place + 6);
+        let s = source as usize;
+        if dones[s] < number as usize {
+            let p = Position {
+                task: source,
+                number,
+            };
             return Look::Held(p);
         }
         place += 8;
     }
+    Look::Open { op, next }
 }
 
 // The counts done, one for each task.

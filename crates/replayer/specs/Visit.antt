@@ -1,5 +1,5 @@
--- The lowest ready task, found with a note of what each held task waits for. A note says: while its position is not done, the task is
--- not ready, whatever else is done.
+-- A task visited on the way to the lowest that is ready, with a note of what each held task waits for. A note says: while its position
+-- is not done, the task is not ready, whatever else is done.
 use mathlib.Core.Path.{_≡_, refl, sym, ap, _∙_}
 use mathlib.Core.Bool.{true, false, _&&_}
 use mathlib.Core.List.{List}
@@ -8,6 +8,7 @@ use native.Mathlib.Omega.{arith}
 use native.Mathlib.Decide.{ℕ-discrete}
 use lib.ListN.{length, getD, set, replicate, length-set}
 use lib.Seq.{getD-set-same, getD-set-other}
+use borrow.Author.Tests.{lt-ltb, le-ltb}
 use Rattle.codec.specs.declared.Op.{Op}
 use Rattle.codec.specs.declared.Position.{Position}
 use Rattle.codec.specs.Decide.{never}
@@ -18,7 +19,6 @@ use Rattle.replayer.specs.declared.next.Look.{Look}
 use Rattle.replayer.specs.declared.next.Look.the-variants.{Held as LookHeld}
 use Rattle.replayer.specs.declared.next.Next.{Next}
 use Rattle.replayer.specs.declared.next.Next.the-variants.{Open, Held}
-use Rattle.replayer.specs.declared.pick.Pick.{Pick}
 use Rattle.replayer.specs.Dones.{donesOf, dones-at}
 use Rattle.replayer.specs.Look.{asNext, Looks, OneTask, readingOf, look-next, look-held}
 use Rattle.replayer.specs.Moved.{Shaped, moved-own, moved-other, moved-tasks, moved-objects}
@@ -40,16 +40,11 @@ pub record Noted (r : Run) (b sources numbers : List ℕ) : Type 0 where
   pub few : (t : ℕ) → getD sources t 0 < 16
   pub waits : (t : ℕ) → Waiting r b t (getD sources t 0) (getD numbers t 0)
 
--- what is found of a task with accesses left, and the notes after it
+-- what is found of a task, and the notes after it
 pub record Visited (r : Run) (b : List ℕ) (t : ℕ) (sources numbers : List ℕ) (n : Next) : Type 0 where
   pub ready : isReady r b t ≡ isOpen n
   pub opens : (op : Op) (next : ℕ) → n ≡ Open op next → nextOf r b t ≡ Open op next
   pub noted : Noted r b sources numbers
-
--- the lowest ready task with its access, or 16
-pub data Picked (r : Run) (b : List ℕ) (p : Pick) : Type 0 where
-  some : p .task < r .tasks → isReady r b (p .task) ≡ true → nextOf r b (p .task) ≡ Open (p .op) (p .next) → ((s : ℕ) → s < p .task → isReady r b s ≡ false) → Picked r b p
-  none : p .task ≡ 16 → ((s : ℕ) → s < r .tasks → isReady r b s ≡ false) → Picked r b p
 
 -- one task more that is not ready
 pub none-more : (r : Run) (b : List ℕ) (t : ℕ) → ((s : ℕ) → s < t → isReady r b s ≡ false) → isReady r b t ≡ false → (s : ℕ) → s < t + 1 → isReady r b s ≡ false
@@ -70,6 +65,15 @@ noted-none r b = record {
 }
 
 module _ (r : Run) (b : List ℕ) (t : ℕ) (x : TaskRun) (m : Limits) (dones sources numbers : List ℕ) (w : OneTask r t x m dones) (n : Noted r b sources numbers) where
+  -- nothing is left
+  pub visit-none : x .count ≤ x .done → Visited r b t sources numbers Held
+  unfolding isReady
+  visit-none h = record {
+    ready = rw (le-ltb _ _ (rw (w .task) at h));
+    opens = λ op next e. absurd (let z : _≡_ {A = ℕ} 0 1 = cc in omega arith);
+    noted = n;
+  }
+
   -- a note that is not met
   pub visit-waits : getD dones (getD sources t 0) 0 < getD numbers t 0 → Visited r b t sources numbers Held
   unfolding isReady nextOf
@@ -81,13 +85,16 @@ module _ (r : Run) (b : List ℕ) (t : ℕ) (x : TaskRun) (m : Limits) (dones so
         noted = n;
       }
 
-  module _ (h : hasLeft r t ≡ true) (l : Look) (k : Looks m dones (x .place) (readingOf m x b) l) where
+  module _ (g : x .done < x .count) (l : Look) (k : Looks m dones (x .place) (readingOf m x b) l) where
+    left : hasLeft r t ≡ true
+    left = lt-ltb _ _ (rw (w .task) at g)
+
     -- a look, where nothing is noted anew
     pub visit-looks : Visited r b t sources numbers (asNext l)
     unfolding isReady
     visit-looks =
         let e : asNext l ≡ nextOf r b t = look-next r b t x m dones w l k in
-        record { ready = rw (h, ← e); opens = λ op next q. sym e ∙ q; noted = n }
+        record { ready = rw (left, ← e); opens = λ op next q. sym e ∙ q; noted = n }
 
     -- a look that finds an ordering that is not met: it is the task's note
     pub visit-notes : (p : Position) → l ≡ LookHeld p → r .tasks ≤ 16 → t < 16
@@ -96,9 +103,9 @@ module _ (r : Run) (b : List ℕ) (t : ℕ) (x : TaskRun) (m : Limits) (dones so
     visit-notes p q f i =
         let e : Held ≡ nextOf r b t = rw q at (look-next r b t x m dones w l k) in
         let a = look-held r b t x m dones w l k p q in
-        let g : p .task < r .tasks = rw (w .limits) at (a .below) in
+        let o : p .task < r .tasks = rw (w .limits) at (a .below) in
         record {
-          ready = rw (h, ← e);
+          ready = rw (left, ← e);
           opens = λ op next u. sym e ∙ u;
           noted = record {
             sources-all = length-set sources t (p .task) ∙ n .sources-all;
