@@ -13,9 +13,12 @@ mod table;
 mod theirs;
 
 fn main() {
-    let numbers: Vec<u64> = std::env::args().skip(1).map_while(|word| word.parse().ok()).collect();
+    let numbers: Vec<u64> = std::env::args()
+        .skip(1)
+        .map_while(|word| word.parse().ok())
+        .collect();
     let seed = numbers.first().copied().unwrap_or(1);
-    let count = numbers.get(1).copied().unwrap_or(20_000);
+    let count = numbers.get(1).copied().unwrap_or(12_000);
     table::print();
     if !differ::run(seed, count) {
         std::process::exit(1);

@@ -11,10 +11,10 @@ pub type Places = [usize; 66];
 /// The fields of an answer in their order; what is left is 0.
 pub type Answer = [usize; 6];
 
-#[derive(Clone, Debug, PartialEq)]
+#[derive(PartialEq)]
 pub struct State {
-    halves: Halves,
-    words: Words,
+    pub halves: Halves,
+    pub words: Words,
 }
 
 // A slice goes over as its pointer and its length.
@@ -91,7 +91,10 @@ pub fn open(
     out: &mut [u8],
 ) -> (Answer, State) {
     let mut answer = [0; 6];
-    let mut state = State { halves: [0; 548], words: [0; 273] };
+    let mut state = State {
+        halves: [0; 548],
+        words: [0; 273],
+    };
     unsafe {
         wk_open(
             tasks,
@@ -165,7 +168,15 @@ pub fn check(bytes: &[u8]) -> Answer {
 
 /// The length of a task's body; the body itself goes to `out`, as far as there is room.
 pub fn body(bytes: &[u8], task: usize, out: &mut [u8]) -> usize {
-    unsafe { wk_body(bytes.as_ptr(), bytes.len(), task, out.as_mut_ptr(), out.len()) }
+    unsafe {
+        wk_body(
+            bytes.as_ptr(),
+            bytes.len(),
+            task,
+            out.as_mut_ptr(),
+            out.len(),
+        )
+    }
 }
 
 pub fn body_check(bytes: &[u8], task: usize) -> Answer {
@@ -280,5 +291,12 @@ pub fn pack(state: &State, logs: &[u8], ends: &[usize], out: &mut [u8]) -> usize
 
 /// An opening and steps of the lowest ready task until there is none: a digest of them, or the number of a refused opening.
 pub fn replay(bytes: &[u8], memory: &mut [u32]) -> u64 {
-    unsafe { wk_replay(bytes.as_ptr(), bytes.len(), memory.as_mut_ptr(), memory.len()) }
+    unsafe {
+        wk_replay(
+            bytes.as_ptr(),
+            bytes.len(),
+            memory.as_mut_ptr(),
+            memory.len(),
+        )
+    }
 }

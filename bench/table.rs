@@ -26,10 +26,24 @@ fn script(random: &mut Random, tasks: usize, objects: usize, count: usize) -> Sc
         let task = random.below(tasks);
         let any = random.below(objects);
         let own = any / tasks * tasks + task;
-        let object = if random.once_in(4) || own >= objects { any } else { own };
-        accesses.extend([task as u32, object as u32, u32::from(random.once_in(3)), random.word()]);
+        let object = if random.once_in(4) || own >= objects {
+            any
+        } else {
+            own
+        };
+        accesses.extend([
+            task as u32,
+            object as u32,
+            u32::from(random.once_in(3)),
+            random.word(),
+        ]);
     }
-    Script { tasks, owners, starts, accesses }
+    Script {
+        tasks,
+        owners,
+        starts,
+        accesses,
+    }
 }
 
 /// A recording, and what its sections are packed from.
@@ -43,11 +57,30 @@ struct Recording {
 
 /// As much of a script as goes into `limit` bytes, recorded by both sides with equal answers.
 fn record(script: &Script, limit: usize) -> Recording {
-    let Script { tasks, owners, starts, accesses } = script;
+    let Script {
+        tasks,
+        owners,
+        starts,
+        accesses,
+    } = script;
     let mut memories = [starts.clone(), starts.clone()];
     let mut outs = [vec![0; limit], vec![0; limit]];
-    let (_, mut state) = ours::open(*tasks, owners.len(), owners, starts, &mut memories[0], &mut outs[0]);
-    let opened = recorder::open(*tasks, owners.len(), owners, starts, &mut memories[1], &mut outs[1]);
+    let (_, mut state) = ours::open(
+        *tasks,
+        owners.len(),
+        owners,
+        starts,
+        &mut memories[0],
+        &mut outs[0],
+    );
+    let opened = recorder::open(
+        *tasks,
+        owners.len(),
+        owners,
+        starts,
+        &mut memories[1],
+        &mut outs[1],
+    );
     let mut peer_state = opened.state;
     let mut bytes = outs[1][..opened.written].to_vec();
     let mut room = limit - bytes.len() - 12 * tasks;
@@ -58,8 +91,24 @@ fn record(script: &Script, limit: usize) -> Recording {
             break;
         }
         let (task, object) = (x[0] as usize, x[1] as usize);
-        let a = ours::access(&mut state, task, object, x[2], x[3], &mut memories[0], &mut outs[0]);
-        let b = recorder::access::<true>(&mut peer_state, task, object, x[2], x[3], &mut memories[1], &mut outs[1]);
+        let a = ours::access(
+            &mut state,
+            task,
+            object,
+            x[2],
+            x[3],
+            &mut memories[0],
+            &mut outs[0],
+        );
+        let b = recorder::access::<true>(
+            &mut peer_state,
+            task,
+            object,
+            x[2],
+            x[3],
+            &mut memories[1],
+            &mut outs[1],
+        );
         assert!(a[4] == b.written && outs[0][..a[4]] == outs[1][..b.written]);
         pieces[task].extend_from_slice(&outs[1][..b.written]);
         room -= b.written;
@@ -77,7 +126,13 @@ fn record(script: &Script, limit: usize) -> Recording {
     let written = ours::pack(&state, &logs, &ends, &mut outs[0]);
     bytes.extend_from_slice(&outs[0][..written]);
     assert_eq!(ours::check(&bytes)[0], 0);
-    Recording { state: peer_state, logs, ends, head, bytes }
+    Recording {
+        state: peer_state,
+        logs,
+        ends,
+        head,
+        bytes,
+    }
 }
 
 /// The best time of each side in seconds; every answer must be the first side's.
@@ -101,7 +156,10 @@ fn best<const SIDES: usize>(mut sides: [&mut dyn FnMut() -> u64; SIDES]) -> [f64
 /// A row: the work, ours, theirs and the ratio; then the other way of theirs and the ratio to it.
 fn row(work: &str, unit: &str, scale: f64, times: &[f64], other: &str) {
     let [ours, theirs] = [times[0] * scale, times[1] * scale];
-    print!("{work:<34} {ours:>9.1} {theirs:>9.1} {unit:<3} {:>6.2}", ours / theirs);
+    print!(
+        "{work:<34} {ours:>9.1} {theirs:>9.1} {unit:<3} {:>6.2}",
+        ours / theirs
+    );
     match times.get(2) {
         Some(time) => println!("   {:>9.1} {:>6.2}  {other}", time * scale, times[0] / time),
         None => println!(),
@@ -110,23 +168,67 @@ fn row(work: &str, unit: &str, scale: f64, times: &[f64], other: &str) {
 
 fn access_row(random: &mut Random, tasks: usize, objects: usize) {
     let count = 4000;
-    let Script { tasks, owners, starts, accesses } = script(random, tasks, objects, count);
+    let Script {
+        tasks,
+        owners,
+        starts,
+        accesses,
+    } = script(random, tasks, objects, count);
     let mut memory = vec![0; objects];
     let mut out = vec![0; 8 + 5 * objects];
     let (mut memory_2, mut out_2) = (memory.clone(), out.clone());
     let (mut memory_3, mut out_3) = (memory.clone(), out.clone());
     let times = best([
-        &mut || ours::script(tasks, &owners, &starts, black_box(&accesses), &mut memory, &mut out),
-        &mut || theirs::script::<true>(tasks, &owners, &starts, black_box(&accesses), &mut memory_2, &mut out_2),
-        &mut || theirs::script::<false>(tasks, &owners, &starts, black_box(&accesses), &mut memory_3, &mut out_3),
+        &mut || {
+            ours::script(
+                tasks,
+                &owners,
+                &starts,
+                black_box(&accesses),
+                &mut memory,
+                &mut out,
+            )
+        },
+        &mut || {
+            theirs::script::<true>(
+                tasks,
+                &owners,
+                &starts,
+                black_box(&accesses),
+                &mut memory_2,
+                &mut out_2,
+            )
+        },
+        &mut || {
+            theirs::script::<false>(
+                tasks,
+                &owners,
+                &starts,
+                black_box(&accesses),
+                &mut memory_3,
+                &mut out_3,
+            )
+        },
     ]);
     let work = format!("access, N = {objects}, T = {tasks}");
-    row(&work, "ns", 1e9 / count as f64, &times, "without the whole-state check");
+    row(
+        &work,
+        "ns",
+        1e9 / count as f64,
+        &times,
+        "without the whole-state check",
+    );
 }
 
 fn recording_rows(random: &mut Random, limit: usize) {
     let script = script(random, 9, 140, 20_000);
-    let Recording { state, logs, ends, head, bytes } = record(&script, limit);
+    let Recording {
+        state,
+        logs,
+        ends,
+        head,
+        bytes,
+    } = record(&script, limit);
     let objects = script.starts.len();
     let size = bytes.len();
     let linked = ours::State::of(&state);
@@ -137,7 +239,13 @@ fn recording_rows(random: &mut Random, limit: usize) {
         &mut || theirs::pack(&state, black_box(&logs), &ends, &mut out_2) as u64,
     ]);
     assert!(out[..size - head] == bytes[head..] && out == out_2);
-    row(&format!("9 sections packed, {size} bytes"), "us", 1e6, &times, "");
+    row(
+        &format!("9 sections packed, {size} bytes"),
+        "us",
+        1e6,
+        &times,
+        "",
+    );
 
     let times = best([
         &mut || ours::check(black_box(&bytes))[0] as u64,
@@ -153,12 +261,21 @@ fn recording_rows(random: &mut Random, limit: usize) {
         &mut || theirs::replay_by_word(black_box(&bytes), &mut memory_3),
     ]);
     assert!(memory == memory_2 && memory == memory_3);
-    row(&format!("replay to the end, {size} bytes"), "us", 1e6, &times, "by the ready word before each step");
+    row(
+        &format!("replay to the end, {size} bytes"),
+        "us",
+        1e6,
+        &times,
+        "by the ready word before each step",
+    );
 }
 
 pub fn print() {
     println!("Best of {ROUNDS} rounds, both sides in turn in one process; buffers are not cleared in between.");
-    println!("{:<34} {:>9} {:>9} {:<3} {:>6}   {:>9} {:>6}", "", "ours", "theirs", "", "ratio", "theirs", "ratio");
+    println!(
+        "{:<34} {:>9} {:>9} {:<3} {:>6}   {:>9} {:>6}",
+        "", "ours", "theirs", "", "ratio", "theirs", "ratio"
+    );
     let mut random = Random(1);
     access_row(&mut random, 9, 140);
     access_row(&mut random, 16, 256);
