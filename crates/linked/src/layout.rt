@@ -3,7 +3,6 @@
 // A state's halves are T, N, Last's task and number, Done and Took of each task, then for each object its case (0 write-held,
 // 1 read-held, else shared) and its task; its words are G, Seen of each task, and each object's share number.
 // A run's places are T and N, then for each task its place, end, done and count.
-ghost use Prim.Native.Nat.{_<_};
 use codec::Position;
 use replayer::Run;
 use replayer::TaskRun;
@@ -75,32 +74,38 @@ pub(crate) fn state_of(halves: &[u16; 548], words: &[u32; 273]) -> State {
     }
 }
 
-fn put_record(record: ObjectRecord, i: usize, halves: &mut [u16; 548], words: &mut [u32; 273])
-    requires { ⌜ i < 256 ⌝ }
-{
-    halves[36 + i] = 0;
-    halves[292 + i] = 0;
-    words[17 + i] = 0;
-    let locality = record.locality;
+fn case_of(locality: Locality) -> u16 {
     match locality {
-        Locality::WriteExclusive(task) => {
-            halves[292 + i] = task;
-        }
-        Locality::ReadExclusive(task) => {
-            halves[36 + i] = 1;
-            halves[292 + i] = task;
-        }
-        Locality::ReadShared(share) => {
-            halves[36 + i] = 2;
-            words[17 + i] = share;
-        }
+        Locality::WriteExclusive(_) => 0,
+        Locality::ReadExclusive(_) => 1,
+        Locality::ReadShared(_) => 2,
+    }
+}
+
+// 0 where every task has it.
+fn task_of(locality: Locality) -> u16 {
+    match locality {
+        Locality::WriteExclusive(task) => task,
+        Locality::ReadExclusive(task) => task,
+        Locality::ReadShared(_) => 0,
+    }
+}
+
+// 0 where one task has it.
+fn share_of(locality: Locality) -> u32 {
+    match locality {
+        Locality::ReadShared(share) => share,
+        _ => 0,
     }
 }
 
 fn put_records(records: [ObjectRecord; 256], halves: &mut [u16; 548], words: &mut [u32; 273]) {
     for i in 0..256 {
         let record = records[i];
-        put_record(record, i, halves, words);
+        let locality = record.locality;
+        halves[36 + i] = case_of(locality);
+        halves[292 + i] = task_of(locality);
+        words[17 + i] = share_of(locality);
     }
 }
 
