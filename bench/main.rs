@@ -3,7 +3,9 @@
 //!
 //! Arguments: the first script's seed and the number of scripts.
 
+mod both;
 mod differ;
+mod inputs;
 mod ours;
 // The bench calls a part of it.
 #[allow(dead_code)]
