@@ -98,13 +98,15 @@ impl Random {
         let place = self.pick(&[0, near, bytes, bytes + 1, usize::MAX, any]);
         let near = self.pick(&[run.done[t], run.count[t]]);
         let count = self.pick(&[near, near.wrapping_add(1), half, word]);
-        match self.below(6) {
+        match self.below(7) {
             0 => run.tasks = self.mostly(4, half as usize, any),
             1 => run.objects = self.mostly(4, half as usize, any),
             2 => run.done[t] = count,
             3 => run.count[t] = count,
             4 => run.place[t] = place,
-            _ => run.end[t] = place,
+            5 => run.end[t] = place,
+            // Between the orderings of one access.
+            _ => run.end[t] = run.place[t].wrapping_add(8 * self.below(3)),
         }
     }
 }
