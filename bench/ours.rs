@@ -1,6 +1,7 @@
 //! The proved library as it is linked in: the functions of `crates/linked`, and a state or a run as the arrays that they take.
 
 use crate::peer::{recorder, replayer};
+use crate::table::Script;
 
 /// T, N, Last's task and number, Done and Took of each task, each object's case and task (`crates/linked/src/layout.rt`).
 type Halves = [u16; 548];
@@ -11,7 +12,6 @@ pub type Places = [usize; 66];
 /// The fields of an answer in their order; what is left is 0.
 pub type Answer = [usize; 6];
 
-#[derive(PartialEq)]
 pub struct State {
     pub halves: Halves,
     pub words: Words,
@@ -246,25 +246,18 @@ pub fn same_outcome(
     answer
 }
 
-/// An opening and a script of accesses, four numbers each: a digest of what they answered.
-pub fn script(
-    tasks: usize,
-    owners: &[u8],
-    starts: &[u32],
-    script: &[u32],
-    memory: &mut [u32],
-    out: &mut [u8],
-) -> u64 {
+/// An opening and accesses: a digest of what they answered.
+pub fn script(script: &Script, memory: &mut [u32], out: &mut [u8]) -> u64 {
     unsafe {
         wk_script(
-            tasks,
-            owners.len(),
-            owners.as_ptr(),
-            owners.len(),
-            starts.as_ptr(),
-            starts.len(),
-            script.as_ptr(),
-            script.len(),
+            script.tasks,
+            script.owners.len(),
+            script.owners.as_ptr(),
+            script.owners.len(),
+            script.starts.as_ptr(),
+            script.starts.len(),
+            script.accesses.as_ptr(),
+            script.accesses.len(),
             memory.as_mut_ptr(),
             memory.len(),
             out.as_mut_ptr(),

@@ -1,6 +1,7 @@
 //! The other side of the calls that do many at once: what `crates/linked/src/timed.rt` does, by `peer.rs`.
 
 use crate::peer::{recorder, replayer};
+use crate::table::Script;
 
 fn mixed(digest: u64, x: u64) -> u64 {
     digest.rotate_left(7) ^ x
@@ -24,16 +25,11 @@ fn step_word(task: usize, s: &replayer::Step) -> u64 {
 
 /// With `CHECK` each access checks the whole state first, as document 01 asks.
 #[inline(never)]
-pub fn script<const CHECK: bool>(
-    tasks: usize,
-    owners: &[u8],
-    starts: &[u32],
-    script: &[u32],
-    memory: &mut [u32],
-    out: &mut [u8],
-) -> u64 {
-    let mut state = recorder::open(tasks, owners.len(), owners, starts, memory, out).state;
-    script.chunks_exact(4).fold(0, |digest, x| {
+pub fn script<const CHECK: bool>(script: &Script, memory: &mut [u32], out: &mut [u8]) -> u64 {
+    let (owners, starts) = (&script.owners, &script.starts);
+    let opened = recorder::open(script.tasks, owners.len(), owners, starts, memory, out);
+    let mut state = opened.state;
+    script.accesses.chunks_exact(4).fold(0, |digest, x| {
         let (task, object) = (x[0] as usize, x[1] as usize);
         let a = recorder::access::<CHECK>(&mut state, task, object, x[2], x[3], memory, out);
         mixed(digest, access_word(&a))
