@@ -1,6 +1,12 @@
 // One call each, for a caller that compares answers: every field of the answer is put into `answer`, from its start, in the
 // order in which the library's struct has them; a state or a run is put where it was lent.
+ghost use mathlib.Core.Path.{_≡_};
 ghost use Prim.Native.Nat.{_≤_};
+ghost use lib.ListN.{length, set};
+ghost use Rattle.reader.specs.Calls.{checkedOf, bodyPart, bodyChecked};
+ghost use Rattle.reader.specs.Parse.{parse};
+ghost use Rattle.replayer.specs.OpenOf.{openOf};
+ghost use Rattle.replayer.specs.Alike.{sameOutcomeOf};
 use crate::layout::put_run;
 use crate::layout::put_state;
 use crate::layout::run_of;
@@ -69,7 +75,9 @@ pub extern "C" fn wk_section(
 }
 
 #[no_mangle]
-pub extern "C" fn wk_check(bytes: &[u8], answer: &mut [usize; 6]) {
+pub extern "C" fn wk_check(bytes: &[u8], answer: &mut [usize; 6])
+    ensures { λ _. ⌜ now (answer .exit) ≡ set (set (now (answer .entry)) 0 (checkedOf (parse (now (bytes .entry))) .number)) 1 (checkedOf (parse (now (bytes .entry))) .offset) ⌝ }
+{
     let r = reader::check(bytes);
     answer[0] = r.number as usize;
     answer[1] = r.offset;
@@ -83,7 +91,9 @@ fn least(a: usize, b: usize) -> usize
 
 // The body itself, as far as there is room for it, and its length: an exported function cannot hand back a part of a slice.
 #[no_mangle]
-pub extern "C" fn wk_body(bytes: &[u8], task: usize, out: &mut [u8]) -> usize {
+pub extern "C" fn wk_body(bytes: &[u8], task: usize, out: &mut [u8]) -> usize
+    ensures { λ r. ⌜ r ≡ length (bodyPart (parse (now (bytes .entry))) task (now (bytes .entry))) ⌝ }
+{
     let body = reader::body(bytes, task);
     let n = least(body.len(), out.len());
     for i in 0..n {
@@ -93,7 +103,9 @@ pub extern "C" fn wk_body(bytes: &[u8], task: usize, out: &mut [u8]) -> usize {
 }
 
 #[no_mangle]
-pub extern "C" fn wk_body_check(bytes: &[u8], task: usize, answer: &mut [usize; 6]) {
+pub extern "C" fn wk_body_check(bytes: &[u8], task: usize, answer: &mut [usize; 6])
+    ensures { λ _. ⌜ now (answer .exit) ≡ set (set (now (answer .entry)) 0 (bodyChecked (parse (now (bytes .entry))) task .number)) 1 (bodyChecked (parse (now (bytes .entry))) task .offset) ⌝ }
+{
     let r = reader::body_check(bytes, task);
     answer[0] = r.number as usize;
     answer[1] = r.offset;
@@ -105,7 +117,10 @@ pub extern "C" fn wk_replay_open(
     memory: &mut [u32],
     places: &mut [usize; 66],
     answer: &mut [usize; 6],
-) {
+)
+    ensures { λ _. ⌜ now (memory .exit) ≡ openOf (now (bytes .entry)) (now (memory .entry)) .memory ⌝ }
+    ensures { λ _. ⌜ now (answer .exit) ≡ set (set (now (answer .entry)) 0 (openOf (now (bytes .entry)) (now (memory .entry)) .answer .number)) 1 (openOf (now (bytes .entry)) (now (memory .entry)) .answer .offset) ⌝ }
+{
     let r = replayer::open(bytes, memory);
     answer[0] = r.number as usize;
     answer[1] = r.offset;
@@ -150,7 +165,10 @@ pub extern "C" fn wk_same_outcome(
     first_memory: &mut [u32],
     second_memory: &mut [u32],
     answer: &mut [usize; 6],
-) {
+)
+    ensures { λ _. ⌜ now («first_memory» .exit) ≡ sameOutcomeOf (now (first .entry)) (now (second .entry)) (now («first_memory» .entry)) (now («second_memory» .entry)) .first ⌝ }
+    ensures { λ _. ⌜ now («second_memory» .exit) ≡ sameOutcomeOf (now (first .entry)) (now (second .entry)) (now («first_memory» .entry)) (now («second_memory» .entry)) .second ⌝ }
+{
     let r = same_outcome(first, second, first_memory, second_memory);
     answer[0] = r.number as usize;
     answer[1] = r.offset;
