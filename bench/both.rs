@@ -1,0 +1,222 @@
+//! One call each on both sides, with the same arguments and the same lent bytes: every field of the answer, and every buffer, state
+//! and run after the call, are compared. What was lent is left as the call leaves it.
+
+use crate::ours::{self, Answer, State};
+use crate::peer::{reader, recorder, replayer};
+use crate::theirs;
+use std::fmt::Debug;
+
+/// The error says what differs.
+pub type Same<T = ()> = Result<T, String>;
+
+fn same<T: PartialEq + Debug>(what: &str, ours: T, theirs: T) -> Same {
+    if ours == theirs {
+        return Ok(());
+    }
+    Err(format!("{what}: ours {ours:?}, theirs {theirs:?}"))
+}
+
+/// Of two lists only the first place where they differ is told.
+fn same_list<T: PartialEq + Debug>(what: &str, ours: &[T], theirs: &[T]) -> Same {
+    same(&format!("{what}, length"), ours.len(), theirs.len())?;
+    match ours.iter().zip(theirs).position(|(a, b)| a != b) {
+        Some(i) => same(&format!("{what}, at {i}"), &ours[i], &theirs[i]),
+        None => Ok(()),
+    }
+}
+
+fn same_state(what: &str, ours: &State, theirs: &recorder::State) -> Same {
+    let theirs = State::of(theirs);
+    same_list(&format!("{what}, halves"), &ours.halves, &theirs.halves)?;
+    same_list(&format!("{what}, words"), &ours.words, &theirs.words)
+}
+
+/// An answer's fields, in the order in which the library has them.
+fn same_answer(what: &str, ours: Answer, theirs: &[usize]) -> Same {
+    let mut fields = [0; 6];
+    fields[..theirs.len()].copy_from_slice(theirs);
+    same(what, ours, fields)
+}
+
+/// Counts the calls.
+#[derive(Default)]
+pub struct Both {
+    pub answers: u64,
+}
+
+impl Both {
+    /// The state where it is accepted; the head is then at the start of `out`.
+    pub fn open(
+        &mut self,
+        tasks: usize,
+        objects: usize,
+        owners: &[u8],
+        starts: &[u32],
+        memory: &mut [u32],
+        out: &mut [u8],
+    ) -> Same<Option<recorder::State>> {
+        self.answers += 1;
+        let (mut memory_2, mut out_2) = (memory.to_vec(), out.to_vec());
+        let (ours, state) = ours::open(tasks, objects, owners, starts, memory, out);
+        let theirs = recorder::open(tasks, objects, owners, starts, &mut memory_2, &mut out_2);
+        same_answer("open", ours, &[theirs.number as usize, theirs.written])?;
+        same_state("open's state", &state, &theirs.state)?;
+        same_list("open's memory", memory, &memory_2)?;
+        same_list("open's output", out, &out_2)?;
+        Ok((theirs.number == 0).then_some(theirs.state))
+    }
+
+    /// How many bytes were written, 0 where it is refused.
+    pub fn access(
+        &mut self,
+        state: &mut recorder::State,
+        [task, object]: [usize; 2],
+        [sort, value]: [u32; 2],
+        memory: &mut [u32],
+        out: &mut [u8],
+    ) -> Same<usize> {
+        self.answers += 1;
+        let (mut memory_2, mut out_2) = (memory.to_vec(), out.to_vec());
+        let mut linked = State::of(state);
+        let ours = ours::access(&mut linked, task, object, sort, value, memory, out);
+        let theirs =
+            recorder::access::<true>(state, task, object, sort, value, &mut memory_2, &mut out_2);
+        let fields = [
+            theirs.number as usize,
+            theirs.value as usize,
+            theirs.row.into(),
+            theirs.class as usize,
+            theirs.written,
+        ];
+        same_answer("access", ours, &fields)?;
+        same_state("access's state", &linked, state)?;
+        same_list("access's memory", memory, &memory_2)?;
+        same_list("access's output", out, &out_2)?;
+        Ok(theirs.written)
+    }
+
+    /// How many bytes were written, 0 where it is refused.
+    pub fn section(
+        &mut self,
+        state: &recorder::State,
+        task: usize,
+        log: &[u8],
+        out: &mut [u8],
+    ) -> Same<usize> {
+        self.answers += 1;
+        let mut out_2 = out.to_vec();
+        let ours = ours::section(&State::of(state), task, log, out);
+        let theirs = recorder::section(state, task, log, &mut out_2);
+        let fields = [theirs.number as usize, theirs.offset, theirs.written];
+        same_answer("section", ours, &fields)?;
+        same_list("section's output", out, &out_2)?;
+        Ok(theirs.written)
+    }
+
+    pub fn check(&mut self, bytes: &[u8]) -> Same {
+        self.answers += 1;
+        let theirs = reader::check(bytes);
+        let fields = [theirs.number as usize, theirs.offset];
+        same_answer("check", ours::check(bytes), &fields)
+    }
+
+    pub fn body(&mut self, bytes: &[u8], task: usize) -> Same {
+        self.answers += 1;
+        let theirs = reader::body(bytes, task);
+        let mut ours = vec![0; theirs.len()];
+        let length = ours::body(bytes, task, &mut ours);
+        same("body's length", length, theirs.len())?;
+        same_list("body", &ours, theirs)
+    }
+
+    pub fn body_check(&mut self, bytes: &[u8], task: usize) -> Same {
+        self.answers += 1;
+        let theirs = reader::body_check(bytes, task);
+        let fields = [theirs.number as usize, theirs.offset];
+        same_answer("body_check", ours::body_check(bytes, task), &fields)
+    }
+
+    /// The run where it is accepted.
+    pub fn replay_open(&mut self, bytes: &[u8], memory: &mut [u32]) -> Same<Option<replayer::Run>> {
+        self.answers += 1;
+        let mut memory_2 = memory.to_vec();
+        let (ours, places) = ours::replay_open(bytes, memory);
+        let theirs = replayer::open(bytes, &mut memory_2);
+        let fields = [theirs.number as usize, theirs.offset];
+        same_answer("replay opening", ours, &fields)?;
+        let run = ours::places_of(&theirs.run);
+        same_list("replay opening's run", &places, &run)?;
+        same_list("replay opening's memory", memory, &memory_2)?;
+        Ok((theirs.number == 0).then_some(theirs.run))
+    }
+
+    /// The ready word.
+    pub fn ready(&mut self, run: &replayer::Run, bytes: &[u8]) -> Same<u16> {
+        self.answers += 1;
+        let ours = ours::ready(&ours::places_of(run), bytes);
+        let theirs = replayer::ready(run, bytes);
+        let fields = [
+            theirs.number as usize,
+            theirs.word.into(),
+            replayer::ready_count(theirs.word) as usize,
+            replayer::lowest_ready(theirs.word) as usize,
+        ];
+        same_answer("ready", ours, &fields)?;
+        Ok(theirs.word)
+    }
+
+    pub fn step(
+        &mut self,
+        run: &mut replayer::Run,
+        bytes: &[u8],
+        memory: &mut [u32],
+        task: usize,
+    ) -> Same {
+        self.answers += 1;
+        let mut memory_2 = memory.to_vec();
+        let mut places = ours::places_of(run);
+        let ours = ours::step(&mut places, bytes, memory, task);
+        let theirs = replayer::step(run, bytes, &mut memory_2, task);
+        let fields = [
+            theirs.number as usize,
+            theirs.offset,
+            theirs.kind as usize,
+            theirs.object,
+            theirs.value as usize,
+            theirs.access as usize,
+        ];
+        same_answer("step", ours, &fields)?;
+        same_list("step's run", &places, &ours::places_of(run))?;
+        same_list("step's memory", memory, &memory_2)
+    }
+
+    pub fn same_outcome(
+        &mut self,
+        [first, second]: [&[u8]; 2],
+        [one, two]: [&mut [u32]; 2],
+    ) -> Same {
+        self.answers += 1;
+        let (mut one_2, mut two_2) = (one.to_vec(), two.to_vec());
+        let ours = ours::same_outcome(first, second, one, two);
+        let theirs = replayer::same_outcome(first, second, &mut one_2, &mut two_2);
+        let fields = [theirs.number as usize, theirs.offset, theirs.alike.into()];
+        same_answer("same_outcome", ours, &fields)?;
+        same_list("same_outcome's first memory", one, &one_2)?;
+        same_list("same_outcome's second memory", two, &two_2)
+    }
+
+    /// From the opening to where it ends or sticks, in one call and step by step.
+    pub fn replay(&mut self, bytes: &[u8], memory: &mut [u32]) -> Same {
+        self.answers += 2;
+        let (mut again, mut memory_2, mut again_2) =
+            (memory.to_vec(), memory.to_vec(), memory.to_vec());
+        let ours = ours::replay_to_end(bytes, memory);
+        let theirs = theirs::replay_to_end(bytes, &mut memory_2);
+        same_answer("replay_to_end", ours, &theirs)?;
+        same_list("replay_to_end's memory", memory, &memory_2)?;
+        let ours = ours::replay(bytes, &mut again);
+        let theirs = theirs::replay_by_word(bytes, &mut again_2);
+        same("digest of a replay", ours, theirs)?;
+        same_list("replay's memory", &again, &again_2)
+    }
+}

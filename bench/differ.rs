@@ -1,0 +1,242 @@
+//! Random scripts on both sides. A script is one recording from its opening to its replay, with refused calls, unsound states and
+//! damaged bytes in between.
+
+use crate::both::{Both, Same};
+use crate::inputs::objects_in;
+use crate::peer::{recorder, replayer};
+use crate::random::Random;
+
+struct Script {
+    random: Random,
+    both: Both,
+}
+
+/// Making a recording.
+impl Script {
+    fn open(
+        &mut self,
+        tasks: usize,
+        objects: usize,
+    ) -> Same<Option<(recorder::State, Vec<u32>, Vec<u8>)>> {
+        let r = &mut self.random;
+        let [owners, starts, memory] = [objects; 3].map(|n| r.length(n));
+        let mut owners = r.bytes(owners);
+        if !r.once_in(40) {
+            let tasks = tasks.clamp(1, 16) as u8;
+            owners.iter_mut().for_each(|owner| *owner %= tasks);
+        }
+        let starts = r.words(starts);
+        let mut memory = r.words(memory);
+        let head = 8 + 5 * objects;
+        let less = r.below(head);
+        let room = r.mostly(20, head, less);
+        let mut out = r.bytes(room);
+        let state = self
+            .both
+            .open(tasks, objects, &owners, &starts, &mut memory, &mut out)?;
+        Ok(state.map(|state| (state, memory, out)))
+    }
+
+    /// The task and its piece of the log, empty where the access is refused.
+    fn access(
+        &mut self,
+        state: &mut recorder::State,
+        memory: &mut [u32],
+    ) -> Same<(usize, Vec<u8>)> {
+        let r = &mut self.random;
+        let place = [
+            r.index(state.tasks.min(16)),
+            r.index(state.objects.min(256)),
+        ];
+        let (sort, other) = (r.word() & 1, r.half());
+        let act = [r.mostly(60, sort, other), r.word()];
+        // 138 bytes are enough for any access.
+        let less = r.below(140);
+        let room = r.mostly(12, 140, less);
+        let mut out = r.bytes(room);
+        let written = self.both.access(state, place, act, memory, &mut out)?;
+        out.truncate(written);
+        Ok((place[0], out))
+    }
+
+    /// Accesses on a state bent, or far from all others: a few, since the first may be accepted.
+    fn odd_accesses(&mut self, state: &recorder::State) -> Same {
+        let r = &mut self.random;
+        let far = r.far_state();
+        let mut state = r.mostly(3, state.clone(), far);
+        for _ in 0..r.below(3) {
+            r.bend_state(&mut state);
+        }
+        let length = r.length(state.objects.min(300));
+        let mut memory = r.words(length);
+        for _ in 0..3 {
+            self.access(&mut state, &mut memory)?;
+        }
+        Ok(())
+    }
+
+    /// A section that is mostly refused: a damaged log, little room, another task, a state bent.
+    fn odd_section(&mut self, state: &recorder::State, task: usize, log: &[u8]) -> Same {
+        let r = &mut self.random;
+        let (mut state, mut log) = (state.clone(), log.to_vec());
+        if r.once_in(2) {
+            r.damage(&mut log);
+        }
+        if r.once_in(4) {
+            r.bend_state(&mut state);
+        }
+        let other = r.index(16);
+        let task = r.mostly(4, task, other);
+        let less = r.below(12 + log.len());
+        let room = r.mostly(4, 12 + log.len(), less);
+        let mut out = r.bytes(room);
+        self.both.section(&state, task, &log, &mut out)?;
+        Ok(())
+    }
+
+    /// None where the opening is refused.
+    fn recording(&mut self) -> Same<Option<Vec<u8>>> {
+        let r = &mut self.random;
+        let most = r.pick(&[1, 2, 4, 16, 16, 18]);
+        let tasks = r.below(most + 1);
+        let most = r.pick(&[1, 3, 12, 140, 256, 260]);
+        let objects = r.below(most + 1);
+        // None at all is rare.
+        let least = [r.mostly(20, 1, 0), r.mostly(20, 1, 0)];
+        let opened = self.open(tasks.max(least[0]), objects.max(least[1]))?;
+        let Some((mut state, mut memory, mut bytes)) = opened else {
+            return Ok(None);
+        };
+        let mut logs = vec![Vec::new(); state.tasks];
+        let most = self.random.pick(&[10, 40, 40, 300, 300, 2000]);
+        // Rarely more than a task can make.
+        let most = self.random.mostly(4000, most, 150_000);
+        for _ in 0..self.random.below(most) {
+            if self.random.once_in(25) {
+                self.odd_accesses(&state)?;
+            }
+            let (task, piece) = self.access(&mut state, &mut memory)?;
+            if !piece.is_empty() {
+                logs[task].extend(piece);
+            }
+        }
+        for (task, log) in logs.iter().enumerate() {
+            self.odd_section(&state, task, log)?;
+            let mut out = self.random.bytes(12 + log.len());
+            self.both.section(&state, task, log, &mut out)?;
+            bytes.extend(out);
+        }
+        Ok(Some(bytes))
+    }
+}
+
+/// Reading a recording.
+impl Script {
+    /// The ready word and steps of a run bent, or over damaged bytes.
+    fn odd_steps(&mut self, run: &replayer::Run, bytes: &[u8]) -> Same {
+        let r = &mut self.random;
+        let (mut run, mut bytes) = (run.clone(), bytes.to_vec());
+        if r.once_in(2) {
+            r.damage(&mut bytes);
+        }
+        for _ in 0..r.below(3) {
+            r.bend_run(&mut run, bytes.len());
+        }
+        let length = r.length(run.objects.min(300));
+        let mut memory = r.words(length);
+        self.both.ready(&run, &bytes)?;
+        for _ in 0..3 {
+            let task = self.random.index(run.tasks.min(16));
+            self.both.step(&mut run, &bytes, &mut memory, task)?;
+        }
+        Ok(())
+    }
+
+    fn steps(&mut self, mut run: replayer::Run, bytes: &[u8], memory: &mut [u32]) -> Same {
+        let any_order = self.random.once_in(2);
+        loop {
+            if self.random.once_in(12) {
+                self.odd_steps(&run, bytes)?;
+            }
+            let word = self.both.ready(&run, bytes)?;
+            if word == 0 {
+                break;
+            }
+            let lowest = word.trailing_zeros() as usize;
+            let highest = 15 - word.leading_zeros() as usize;
+            // Any task at all is often refused, and another is tried.
+            let any = self.random.index(run.tasks);
+            let task = self.random.pick(&[lowest, highest, any]);
+            let task = if any_order { task } else { lowest };
+            self.both.step(&mut run, bytes, memory, task)?;
+        }
+        for task in 0..17 {
+            self.both.step(&mut run, bytes, memory, task)?;
+        }
+        Ok(())
+    }
+
+    fn read(&mut self, bytes: &[u8]) -> Same {
+        self.both.check(bytes)?;
+        let tasks = bytes.get(4).map_or(1, |&tasks| tasks.into());
+        let task = self.random.index(tasks);
+        self.both.body(bytes, task)?;
+        self.both.body_check(bytes, task)?;
+        let length = self.random.length(objects_in(bytes));
+        let mut memory = self.random.words(length);
+        self.both.replay(bytes, &mut memory)?;
+        let length = self.random.length(objects_in(bytes));
+        let mut memory = self.random.words(length);
+        match self.both.replay_open(bytes, &mut memory)? {
+            Some(run) => self.steps(run, bytes, &mut memory),
+            None => Ok(()),
+        }
+    }
+
+    fn compare(&mut self, first: &[u8], second: &[u8]) -> Same {
+        let r = &mut self.random;
+        let [one, two] = [first, second].map(|bytes| r.length(objects_in(bytes)));
+        let (mut one, mut two) = (r.words(one), r.words(two));
+        self.both
+            .same_outcome([first, second], [&mut one, &mut two])
+    }
+
+    /// A recording, a loose one, and one of the two damaged.
+    fn play(&mut self) -> Same {
+        let loose = self.random.loose_recording();
+        let recording = self.recording()?.unwrap_or_else(|| loose.clone());
+        let mut damaged = self.random.mostly(2, recording.clone(), loose.clone());
+        for _ in 0..1 + self.random.below(2) {
+            self.random.damage(&mut damaged);
+        }
+        let all = [recording, loose, damaged];
+        for bytes in &all {
+            self.read(bytes)?;
+        }
+        let (first, second) = (&all[self.random.below(3)], &all[self.random.below(3)]);
+        self.compare(first, second)?;
+        let twin = self.random.twin(first);
+        self.compare(first, &twin)?;
+        self.compare(&twin, first)
+    }
+}
+
+/// Scripts of the seeds from `seed` on; says how many calls were compared and what differs first. False where any differ.
+pub fn run(seed: u64, count: u64) -> bool {
+    let (mut answers, mut differ) = (0, 0);
+    for seed in seed..seed + count {
+        let random = Random(seed);
+        let both = Both::default();
+        let mut script = Script { random, both };
+        let played = script.play();
+        answers += script.both.answers;
+        if let Err(what) = played {
+            if differ == 0 {
+                println!("seed {seed}: {what}");
+            }
+            differ += 1;
+        }
+    }
+    println!("{count} scripts, {answers} answers, {differ} differ");
+    differ == 0
+}

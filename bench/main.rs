@@ -1,0 +1,28 @@
+//! The proved library beside `peer.rs`, an implementation of document 01 by another hand. Both do the same work on the same bytes in
+//! this process: first a table of times, then random calls whose answers are compared.
+//!
+//! Arguments: the first script's seed and the number of scripts.
+
+mod both;
+mod differ;
+mod inputs;
+mod ours;
+// The bench calls a part of it.
+#[allow(dead_code)]
+mod peer;
+mod random;
+mod table;
+mod theirs;
+
+fn main() {
+    let numbers: Vec<u64> = std::env::args()
+        .skip(1)
+        .map_while(|word| word.parse().ok())
+        .collect();
+    let seed = numbers.first().copied().unwrap_or(1);
+    let count = numbers.get(1).copied().unwrap_or(12_000);
+    table::print();
+    if !differ::run(seed, count) {
+        std::process::exit(1);
+    }
+}

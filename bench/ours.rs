@@ -1,0 +1,311 @@
+//! The proved library as it is linked in: the functions of `crates/linked`, and a state or a run as the arrays that they take.
+
+use crate::peer::{recorder, replayer};
+use crate::table::Script;
+
+/// T, N, Last's task and number, Done and Took of each task, each object's case and task (`crates/linked/src/layout.rt`).
+type Halves = [u16; 548];
+/// G, Seen of each task, each object's share number.
+type Words = [u32; 273];
+/// T, N, then place, end, done and count of each task.
+pub type Places = [usize; 66];
+/// The fields of an answer in their order; what is left is 0.
+pub type Answer = [usize; 6];
+
+pub struct State {
+    pub halves: Halves,
+    pub words: Words,
+}
+
+// A slice goes over as its pointer and its length.
+#[rustfmt::skip]
+extern "C" {
+    fn wk_open(tasks: usize, objects: usize, owners: *const u8, owners_len: usize, starts: *const u32, starts_len: usize,
+        memory: *mut u32, memory_len: usize, out: *mut u8, out_len: usize, halves: &mut Halves, words: &mut Words, answer: &mut Answer);
+    fn wk_access(halves: &mut Halves, words: &mut Words, task: usize, object: usize, sort: u32, value: u32,
+        memory: *mut u32, memory_len: usize, out: *mut u8, out_len: usize, answer: &mut Answer);
+    fn wk_section(halves: &Halves, words: &Words, task: usize, log: *const u8, log_len: usize,
+        out: *mut u8, out_len: usize, answer: &mut Answer);
+    fn wk_check(bytes: *const u8, bytes_len: usize, answer: &mut Answer);
+    fn wk_body(bytes: *const u8, bytes_len: usize, task: usize, out: *mut u8, out_len: usize) -> usize;
+    fn wk_body_check(bytes: *const u8, bytes_len: usize, task: usize, answer: &mut Answer);
+    fn wk_replay_open(bytes: *const u8, bytes_len: usize, memory: *mut u32, memory_len: usize, places: &mut Places, answer: &mut Answer);
+    fn wk_ready(places: &Places, bytes: *const u8, bytes_len: usize, answer: &mut Answer);
+    fn wk_step(places: &mut Places, bytes: *const u8, bytes_len: usize, memory: *mut u32, memory_len: usize, task: usize, answer: &mut Answer);
+    fn wk_same_outcome(first: *const u8, first_len: usize, second: *const u8, second_len: usize,
+        first_memory: *mut u32, first_memory_len: usize, second_memory: *mut u32, second_memory_len: usize, answer: &mut Answer);
+    fn wk_script(tasks: usize, objects: usize, owners: *const u8, owners_len: usize, starts: *const u32, starts_len: usize,
+        script: *const u32, script_len: usize, memory: *mut u32, memory_len: usize, out: *mut u8, out_len: usize) -> u64;
+    fn wk_pack(halves: &Halves, words: &Words, logs: *const u8, logs_len: usize, ends: *const usize, ends_len: usize,
+        out: *mut u8, out_len: usize) -> usize;
+    fn wk_replay_to_end(bytes: *const u8, bytes_len: usize, memory: *mut u32, memory_len: usize, answer: &mut Answer);
+    fn wk_replay(bytes: *const u8, bytes_len: usize, memory: *mut u32, memory_len: usize) -> u64;
+}
+
+impl State {
+    pub fn of(state: &recorder::State) -> State {
+        let mut halves = [0; 548];
+        let mut words = [0; 273];
+        halves[0] = state.tasks as u16;
+        halves[1] = state.objects as u16;
+        halves[2] = state.last.task as u16;
+        halves[3] = state.last.number as u16;
+        words[0] = state.share;
+        for t in 0..16 {
+            halves[4 + t] = state.done[t] as u16;
+            halves[20 + t] = state.took[t] as u16;
+            words[1 + t] = state.seen[t];
+        }
+        for (i, record) in state.records.iter().enumerate() {
+            let (case, task, share) = match record.hold {
+                recorder::Hold::WriteExclusive(task) => (0, task, 0),
+                recorder::Hold::ReadExclusive(task) => (1, task, 0),
+                recorder::Hold::Shared(share) => (2, 0, share),
+            };
+            halves[36 + i] = case;
+            halves[292 + i] = task as u16;
+            words[17 + i] = share;
+        }
+        State { halves, words }
+    }
+}
+
+pub fn places_of(run: &replayer::Run) -> Places {
+    let mut places = [0; 66];
+    places[0] = run.tasks;
+    places[1] = run.objects;
+    for t in 0..16 {
+        places[2 + 4 * t] = run.place[t];
+        places[3 + 4 * t] = run.end[t];
+        places[4 + 4 * t] = run.done[t] as usize;
+        places[5 + 4 * t] = run.count[t] as usize;
+    }
+    places
+}
+
+pub fn open(
+    tasks: usize,
+    objects: usize,
+    owners: &[u8],
+    starts: &[u32],
+    memory: &mut [u32],
+    out: &mut [u8],
+) -> (Answer, State) {
+    let mut answer = [0; 6];
+    let mut state = State {
+        halves: [0; 548],
+        words: [0; 273],
+    };
+    unsafe {
+        wk_open(
+            tasks,
+            objects,
+            owners.as_ptr(),
+            owners.len(),
+            starts.as_ptr(),
+            starts.len(),
+            memory.as_mut_ptr(),
+            memory.len(),
+            out.as_mut_ptr(),
+            out.len(),
+            &mut state.halves,
+            &mut state.words,
+            &mut answer,
+        )
+    }
+    (answer, state)
+}
+
+pub fn access(
+    state: &mut State,
+    task: usize,
+    object: usize,
+    sort: u32,
+    value: u32,
+    memory: &mut [u32],
+    out: &mut [u8],
+) -> Answer {
+    let mut answer = [0; 6];
+    unsafe {
+        wk_access(
+            &mut state.halves,
+            &mut state.words,
+            task,
+            object,
+            sort,
+            value,
+            memory.as_mut_ptr(),
+            memory.len(),
+            out.as_mut_ptr(),
+            out.len(),
+            &mut answer,
+        )
+    }
+    answer
+}
+
+pub fn section(state: &State, task: usize, log: &[u8], out: &mut [u8]) -> Answer {
+    let mut answer = [0; 6];
+    unsafe {
+        wk_section(
+            &state.halves,
+            &state.words,
+            task,
+            log.as_ptr(),
+            log.len(),
+            out.as_mut_ptr(),
+            out.len(),
+            &mut answer,
+        )
+    }
+    answer
+}
+
+pub fn check(bytes: &[u8]) -> Answer {
+    let mut answer = [0; 6];
+    unsafe { wk_check(bytes.as_ptr(), bytes.len(), &mut answer) }
+    answer
+}
+
+/// The length of a task's body; the body itself goes to `out`, as far as there is room.
+pub fn body(bytes: &[u8], task: usize, out: &mut [u8]) -> usize {
+    unsafe {
+        wk_body(
+            bytes.as_ptr(),
+            bytes.len(),
+            task,
+            out.as_mut_ptr(),
+            out.len(),
+        )
+    }
+}
+
+pub fn body_check(bytes: &[u8], task: usize) -> Answer {
+    let mut answer = [0; 6];
+    unsafe { wk_body_check(bytes.as_ptr(), bytes.len(), task, &mut answer) }
+    answer
+}
+
+pub fn replay_open(bytes: &[u8], memory: &mut [u32]) -> (Answer, Places) {
+    let (mut answer, mut places) = ([0; 6], [0; 66]);
+    unsafe {
+        wk_replay_open(
+            bytes.as_ptr(),
+            bytes.len(),
+            memory.as_mut_ptr(),
+            memory.len(),
+            &mut places,
+            &mut answer,
+        )
+    }
+    (answer, places)
+}
+
+/// Number, word, how many tasks the word names and the lowest of them.
+pub fn ready(places: &Places, bytes: &[u8]) -> Answer {
+    let mut answer = [0; 6];
+    unsafe { wk_ready(places, bytes.as_ptr(), bytes.len(), &mut answer) }
+    answer
+}
+
+pub fn step(places: &mut Places, bytes: &[u8], memory: &mut [u32], task: usize) -> Answer {
+    let mut answer = [0; 6];
+    unsafe {
+        wk_step(
+            places,
+            bytes.as_ptr(),
+            bytes.len(),
+            memory.as_mut_ptr(),
+            memory.len(),
+            task,
+            &mut answer,
+        )
+    }
+    answer
+}
+
+pub fn same_outcome(
+    first: &[u8],
+    second: &[u8],
+    first_memory: &mut [u32],
+    second_memory: &mut [u32],
+) -> Answer {
+    let mut answer = [0; 6];
+    unsafe {
+        wk_same_outcome(
+            first.as_ptr(),
+            first.len(),
+            second.as_ptr(),
+            second.len(),
+            first_memory.as_mut_ptr(),
+            first_memory.len(),
+            second_memory.as_mut_ptr(),
+            second_memory.len(),
+            &mut answer,
+        )
+    }
+    answer
+}
+
+/// An opening and accesses: a digest of what they answered.
+pub fn script(script: &Script, memory: &mut [u32], out: &mut [u8]) -> u64 {
+    unsafe {
+        wk_script(
+            script.tasks,
+            script.owners.len(),
+            script.owners.as_ptr(),
+            script.owners.len(),
+            script.starts.as_ptr(),
+            script.starts.len(),
+            script.accesses.as_ptr(),
+            script.accesses.len(),
+            memory.as_mut_ptr(),
+            memory.len(),
+            out.as_mut_ptr(),
+            out.len(),
+        )
+    }
+}
+
+/// All sections, one behind the other: the bytes written. Task t's log ends in `logs` at `ends[t]`.
+pub fn pack(state: &State, logs: &[u8], ends: &[usize], out: &mut [u8]) -> usize {
+    unsafe {
+        wk_pack(
+            &state.halves,
+            &state.words,
+            logs.as_ptr(),
+            logs.len(),
+            ends.as_ptr(),
+            ends.len(),
+            out.as_mut_ptr(),
+            out.len(),
+        )
+    }
+}
+
+/// Number, offset, steps and whether it finished.
+pub fn replay_to_end(bytes: &[u8], memory: &mut [u32]) -> Answer {
+    let mut answer = [0; 6];
+    unsafe {
+        wk_replay_to_end(
+            bytes.as_ptr(),
+            bytes.len(),
+            memory.as_mut_ptr(),
+            memory.len(),
+            &mut answer,
+        );
+    }
+    answer
+}
+
+/// An opening and steps of the lowest ready task until there is none: a digest of them, or the number of a refused opening.
+pub fn replay(bytes: &[u8], memory: &mut [u32]) -> u64 {
+    unsafe {
+        wk_replay(
+            bytes.as_ptr(),
+            bytes.len(),
+            memory.as_mut_ptr(),
+            memory.len(),
+        )
+    }
+}

@@ -1,0 +1,192 @@
+//! The table of times. Both sides run in turn, and the best of all rounds counts. All buffers are made once and never cleared in
+//! between: an opening sets the memory, and what is written over is the same each time.
+
+use crate::both::Both;
+use crate::peer::{reader, recorder};
+use crate::random::Random;
+use crate::{ours, theirs};
+use std::hint::black_box;
+use std::time::Instant;
+
+/// For each row: others may hold the machine for a part of it.
+const SECONDS: f64 = 1.5;
+
+/// What an opening is given, and accesses, four numbers each: task, object, sort, value.
+pub struct Script {
+    pub tasks: usize,
+    pub owners: Vec<u8>,
+    pub starts: Vec<u32>,
+    pub accesses: Vec<u32>,
+}
+
+/// Three accesses of four are to an object of the task's own, the rest to any; one in three writes.
+fn script(random: &mut Random, tasks: usize, objects: usize, count: usize) -> Script {
+    let owners = (0..objects).map(|i| (i % tasks) as u8).collect();
+    let starts = random.words(objects);
+    let mut accesses = Vec::new();
+    for _ in 0..count {
+        let task = random.below(tasks);
+        let any = random.below(objects);
+        let own = (any / tasks * tasks + task) % objects;
+        let object = random.mostly(4, own, any);
+        let write = random.once_in(3);
+        accesses.extend([task as u32, object as u32, write.into(), random.word()]);
+    }
+    Script {
+        tasks,
+        owners,
+        starts,
+        accesses,
+    }
+}
+
+/// A recording, and what its sections are packed from: task t's log ends in `logs` at `ends[t]`.
+struct Recording {
+    state: recorder::State,
+    logs: Vec<u8>,
+    ends: Vec<usize>,
+    bytes: Vec<u8>,
+}
+
+/// As much of a script as goes into `limit` bytes, recorded by both sides.
+fn record(script: &Script, limit: usize) -> Recording {
+    let same = "both sides answer the same";
+    let mut both = Both::default();
+    let (tasks, objects) = (script.tasks, script.owners.len());
+    let (owners, starts) = (&script.owners, &script.starts);
+    let mut memory = starts.clone();
+    let mut out = vec![0; limit];
+    let opened = both.open(tasks, objects, owners, starts, &mut memory, &mut out);
+    let mut state = opened.expect(same).expect("it is accepted");
+    let mut bytes = out[..8 + 5 * objects].to_vec();
+    let mut room = limit - bytes.len() - 12 * tasks;
+    let mut pieces = vec![Vec::new(); tasks];
+    for x in script.accesses.chunks_exact(4) {
+        // The longest piece: 15 orderings and a write.
+        if room < 130 {
+            break;
+        }
+        let (task, object) = (x[0] as usize, x[1] as usize);
+        let act = [x[2], x[3]];
+        let written = both.access(&mut state, [task, object], act, &mut memory, &mut out);
+        let written = written.expect(same);
+        pieces[task].extend_from_slice(&out[..written]);
+        room -= written;
+    }
+    let mut ends = Vec::new();
+    for (task, log) in pieces.iter().enumerate() {
+        let written = both.section(&state, task, log, &mut out).expect(same);
+        bytes.extend_from_slice(&out[..written]);
+        ends.push(ends.last().unwrap_or(&0) + log.len());
+    }
+    Recording {
+        state,
+        logs: pieces.concat(),
+        ends,
+        bytes,
+    }
+}
+
+/// The best time of each side in seconds; every answer must be the first side's.
+fn best<const SIDES: usize>(mut sides: [&mut dyn FnMut() -> u64; SIDES]) -> [f64; SIDES] {
+    let mut best = [f64::MAX; SIDES];
+    let began = Instant::now();
+    let digest = sides[0]();
+    let repeats = (0.002 / began.elapsed().as_secs_f64()).clamp(1.0, 1000.0) as usize;
+    while began.elapsed().as_secs_f64() < SECONDS {
+        for (side, best) in sides.iter_mut().zip(&mut best) {
+            let start = Instant::now();
+            for _ in 0..repeats {
+                assert_eq!(black_box(side()), digest, "the sides answer differently");
+            }
+            *best = best.min(start.elapsed().as_secs_f64() / repeats as f64);
+        }
+    }
+    best
+}
+
+/// A row: the work, ours, theirs and the ratio; then the other way of theirs and the ratio to it.
+fn row(work: &str, unit: &str, scale: f64, times: &[f64], other: &str) {
+    let [ours, theirs] = [times[0] * scale, times[1] * scale];
+    print!(
+        "{work:<34} {ours:>9.1} {theirs:>9.1} {unit:<3} {:>6.2}",
+        ours / theirs
+    );
+    match times.get(2) {
+        Some(time) => println!("   {:>9.1} {:>6.2}  {other}", time * scale, times[0] / time),
+        None => println!(),
+    }
+}
+
+fn access_row(random: &mut Random, tasks: usize, objects: usize) {
+    let count = 4000;
+    let script = script(random, tasks, objects, count);
+    let mut memory = vec![0; objects];
+    let mut out = vec![0; 8 + 5 * objects];
+    let (mut memory_2, mut out_2) = (memory.clone(), out.clone());
+    let (mut memory_3, mut out_3) = (memory.clone(), out.clone());
+    let times = best([
+        &mut || ours::script(black_box(&script), &mut memory, &mut out),
+        &mut || theirs::script::<true>(black_box(&script), &mut memory_2, &mut out_2),
+        &mut || theirs::script::<false>(black_box(&script), &mut memory_3, &mut out_3),
+    ]);
+    let work = format!("access, N = {objects}, T = {tasks}");
+    let other = "without the whole-state check";
+    row(&work, "ns", 1e9 / count as f64, &times, other);
+}
+
+fn recording_rows(random: &mut Random, limit: usize) {
+    let objects = 140;
+    let script = script(random, 9, objects, 20_000);
+    let Recording {
+        state,
+        logs,
+        ends,
+        bytes,
+    } = record(&script, limit);
+    let size = bytes.len();
+    let linked = ours::State::of(&state);
+    let mut out = vec![0; size];
+    let mut out_2 = out.clone();
+    let times = best([
+        &mut || ours::pack(&linked, black_box(&logs), &ends, &mut out) as u64,
+        &mut || theirs::pack(&state, black_box(&logs), &ends, &mut out_2) as u64,
+    ]);
+    assert!(out == out_2 && bytes.ends_with(&out[..size - 8 - 5 * objects]));
+    row(&format!("9 sections, {size} bytes"), "us", 1e6, &times, "");
+
+    let times = best([
+        &mut || ours::check(black_box(&bytes))[0] as u64,
+        &mut || reader::check(black_box(&bytes)).number.into(),
+    ]);
+    row(&format!("check, {size} bytes"), "us", 1e6, &times, "");
+
+    let mut memory = vec![0; objects];
+    let mut memory_2 = memory.clone();
+    let times = best([
+        &mut || ours::replay_to_end(black_box(&bytes), &mut memory)[2] as u64,
+        &mut || theirs::replay_to_end(black_box(&bytes), &mut memory_2)[2] as u64,
+    ]);
+    assert!(memory == memory_2);
+    row(&format!("replay to the end, {size} bytes"), "us", 1e6, &times, "");
+
+    let times = best([
+        &mut || ours::replay(black_box(&bytes), &mut memory),
+        &mut || theirs::replay_by_word(black_box(&bytes), &mut memory_2),
+    ]);
+    assert!(memory == memory_2);
+    row(&format!("replay by word, {size} bytes"), "us", 1e6, &times, "");
+}
+
+pub fn print() {
+    println!("The best of the rounds of {SECONDS} seconds, both sides in turn; buffers are not cleared in between.");
+    println!(
+        "{:<34} {:>9} {:>9} {:<3} {:>6}   {:>9} {:>6}",
+        "", "ours", "theirs", "", "ratio", "theirs", "ratio"
+    );
+    let mut random = Random(1);
+    access_row(&mut random, 9, 140);
+    access_row(&mut random, 16, 256);
+    recording_rows(&mut random, 65_535);
+    recording_rows(&mut random, 4_096);
+}

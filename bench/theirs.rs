@@ -1,0 +1,73 @@
+//! The other side of the calls that do many at once: what `crates/linked/src/timed.rt` does, by `peer.rs`.
+
+use crate::peer::{recorder, replayer};
+use crate::table::Script;
+
+fn mixed(digest: u64, x: u64) -> u64 {
+    digest.rotate_left(7) ^ x
+}
+
+fn access_word(a: &recorder::Accessed) -> u64 {
+    u64::from(a.value)
+        ^ u64::from(a.row) << 32
+        ^ (a.class as u64) << 36
+        ^ u64::from(a.number) << 40
+        ^ (a.written as u64) << 48
+}
+
+fn step_word(task: usize, s: &replayer::Step) -> u64 {
+    u64::from(s.value)
+        ^ (task as u64) << 32
+        ^ u64::from(s.kind) << 36
+        ^ (s.object as u64) << 40
+        ^ u64::from(s.access) << 48
+}
+
+/// With `CHECK` each access checks the whole state first, as document 01 asks.
+#[inline(never)]
+pub fn script<const CHECK: bool>(script: &Script, memory: &mut [u32], out: &mut [u8]) -> u64 {
+    let (owners, starts) = (&script.owners, &script.starts);
+    let opened = recorder::open(script.tasks, owners.len(), owners, starts, memory, out);
+    let mut state = opened.state;
+    script.accesses.chunks_exact(4).fold(0, |digest, x| {
+        let (task, object) = (x[0] as usize, x[1] as usize);
+        let a = recorder::access::<CHECK>(&mut state, task, object, x[2], x[3], memory, out);
+        mixed(digest, access_word(&a))
+    })
+}
+
+#[inline(never)]
+pub fn pack(state: &recorder::State, logs: &[u8], ends: &[usize], out: &mut [u8]) -> usize {
+    let (mut from, mut at) = (0, 0);
+    for (task, &to) in ends.iter().enumerate() {
+        at += recorder::section(state, task, &logs[from..to], &mut out[at..]).written;
+        from = to;
+    }
+    at
+}
+
+/// Number, offset, steps and whether it finished. A scheduler of its own finds the lowest ready task.
+#[inline(never)]
+pub fn replay_to_end(bytes: &[u8], memory: &mut [u32]) -> [usize; 4] {
+    let mut opened = replayer::open(bytes, memory);
+    if opened.number != 0 {
+        return [opened.number as usize, opened.offset, 0, 0];
+    }
+    let played = replayer::replay_to_end(&mut opened.run, bytes, memory, |_, _| {});
+    [0, 0, played.steps, played.finished as usize]
+}
+
+/// The ready word before each step, as in the library.
+#[inline(never)]
+pub fn replay_by_word(bytes: &[u8], memory: &mut [u32]) -> u64 {
+    let mut opened = replayer::open(bytes, memory);
+    let mut digest = opened.number.into();
+    loop {
+        let task = replayer::lowest_ready(replayer::ready(&opened.run, bytes).word) as usize;
+        if task == 16 {
+            return digest;
+        }
+        let s = replayer::step(&mut opened.run, bytes, memory, task);
+        digest = mixed(digest, step_word(task, &s));
+    }
+}

@@ -1,0 +1,95 @@
+use Prim.Native.Nat.{_≤_, _-_}
+use borrow.Author.Needs.{needs}
+use Rattle.linked.proofs.layout.put_records.Statement.{statement}
+use Rattle.linked.proofs.layout.put_records.Tie as tie
+
+abbrev Inv-loop : tie.InvT-loop
+Inv-loop halves₀ words₀ records i₀ halves words i =
+    i ≤ 256
+
+abbrev μ-loop : tie.MeasureT-loop
+μ-loop halves₀ words₀ records i₀ halves words i =
+    256 - i
+
+loop-holds : tie.Need-loop-holds Inv-loop μ-loop
+loop-holds c = search needs
+
+mul-record : tie.Need-mul-record Inv-loop μ-loop
+mul-record c = search needs
+
+array-copy-out-record : tie.Need-array-copy-out-record Inv-loop μ-loop
+array-copy-out-record c = search needs
+
+case-of-requires : tie.Need-case-of-requires Inv-loop μ-loop
+case-of-requires c κs = search needs
+
+add-halves : tie.Need-add-halves Inv-loop μ-loop
+add-halves c = search needs
+
+mul-halves : tie.Need-mul-halves Inv-loop μ-loop
+mul-halves c = search needs
+
+element-write-halves : tie.Need-element-write-halves Inv-loop μ-loop
+element-write-halves c = search needs
+
+task-of-requires : tie.Need-task-of-requires Inv-loop μ-loop
+task-of-requires c κs = search needs
+
+add-halves-2 : tie.Need-add-halves-2 Inv-loop μ-loop
+add-halves-2 c = search needs
+
+mul-halves-2 : tie.Need-mul-halves-2 Inv-loop μ-loop
+mul-halves-2 c = search needs
+
+element-write-halves-2 : tie.Need-element-write-halves-2 Inv-loop μ-loop
+element-write-halves-2 c = search needs
+
+share-of-requires : tie.Need-share-of-requires Inv-loop μ-loop
+share-of-requires c κs = search needs
+
+add-words : tie.Need-add-words Inv-loop μ-loop
+add-words c = search needs
+
+mul-words : tie.Need-mul-words Inv-loop μ-loop
+mul-words c = search needs
+
+element-write-words : tie.Need-element-write-words Inv-loop μ-loop
+element-write-words c = search needs
+
+add-i : tie.Need-add-i Inv-loop μ-loop
+add-i c = search needs
+
+loop-less : tie.Need-loop-less Inv-loop μ-loop
+loop-less c = search needs
+
+loop-again : tie.Need-loop-again Inv-loop μ-loop
+loop-again c = search needs
+
+returns : tie.Need-returns Inv-loop μ-loop
+returns c = search needs
+
+pub put-records-spec : {M : Type 1} → statement M
+put-records-spec =
+    tie.close
+    (tie.spec
+    Inv-loop
+    μ-loop
+    loop-holds
+    mul-record
+    array-copy-out-record
+    case-of-requires
+    add-halves
+    mul-halves
+    element-write-halves
+    task-of-requires
+    add-halves-2
+    mul-halves-2
+    element-write-halves-2
+    share-of-requires
+    add-words
+    mul-words
+    element-write-words
+    add-i
+    loop-less
+    loop-again
+    returns)

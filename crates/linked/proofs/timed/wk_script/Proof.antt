@@ -1,0 +1,122 @@
+use mathlib.Core.Path.{_≡_}
+use Prim.Native.Nat.{_≤_, _<_, _*_, _-_}
+use lib.ListN.{length}
+use native.Mathlib.Omega.{arith}
+use borrow.Author.Needs.{needs}
+use Rattle.linked.proofs.timed.wk_script.Statement.{statement}
+use Rattle.linked.proofs.timed.wk_script.Tie as tie
+
+abbrev Inv-loop : tie.InvT-loop
+Inv-loop tasks objects owners starts script memory₀ out₀ state₀ digest₀ i₀ i-end memory out state digest i =
+    (4 * i ≤ length script) × (length script < 18446744073709551616) × (length memory ≡ length memory₀) × (length out ≡ length out₀)
+
+abbrev μ-loop : tie.MeasureT-loop
+μ-loop tasks objects owners starts script memory₀ out₀ state₀ digest₀ i₀ i-end memory out state digest i =
+    length script - 4 * i
+
+open-requires : tie.Need-open-requires Inv-loop μ-loop
+open-requires c κs = search needs
+
+loop-holds : tie.Need-loop-holds Inv-loop μ-loop
+loop-holds c = search needs
+
+mul-at : tie.Need-mul-at Inv-loop μ-loop
+mul-at c = search needs
+
+mul-wide : tie.Need-mul-wide Inv-loop μ-loop
+mul-wide c = search needs
+
+shared-slice-read-wide : tie.Need-shared-slice-read-wide Inv-loop μ-loop
+shared-slice-read-wide c = search needs
+
+wide-requires : tie.Need-wide-requires Inv-loop μ-loop
+wide-requires c κs = search needs
+
+add-wide : tie.Need-add-wide Inv-loop μ-loop
+add-wide c = search needs
+
+mul-wide-2 : tie.Need-mul-wide-2 Inv-loop μ-loop
+mul-wide-2 c = search needs
+
+shared-slice-read-wide-2 : tie.Need-shared-slice-read-wide-2 Inv-loop μ-loop
+shared-slice-read-wide-2 c = search needs
+
+wide-requires-2 : tie.Need-wide-requires-2 Inv-loop μ-loop
+wide-requires-2 c κs = search needs
+
+add-access : tie.Need-add-access Inv-loop μ-loop
+add-access c = search needs
+
+mul-access : tie.Need-mul-access Inv-loop μ-loop
+mul-access c = search needs
+
+shared-slice-read-access : tie.Need-shared-slice-read-access Inv-loop μ-loop
+shared-slice-read-access c = search needs
+
+add-access-2 : tie.Need-add-access-2 Inv-loop μ-loop
+add-access-2 c = search needs
+
+mul-access-2 : tie.Need-mul-access-2 Inv-loop μ-loop
+mul-access-2 c = search needs
+
+shared-slice-read-access-2 : tie.Need-shared-slice-read-access-2 Inv-loop μ-loop
+shared-slice-read-access-2 c = search needs
+
+access-requires : tie.Need-access-requires Inv-loop μ-loop
+access-requires c κs = search needs
+
+access-word-requires : tie.Need-access-word-requires Inv-loop μ-loop
+access-word-requires c κs = search needs
+
+mixed-requires : tie.Need-mixed-requires Inv-loop μ-loop
+mixed-requires c κs = search needs
+
+add-i : tie.Need-add-i Inv-loop μ-loop
+add-i c = omega (arith, c .before .before .before .before .before .before .before .before .before .before .before .before .before .before .before .before .loop-test .taken, c .before .before .before .before .before .before .before .before .before .before .before .before .before .before .before .before .before .loop .inv)
+
+loop-less : tie.Need-loop-less Inv-loop μ-loop
+loop-less c = search needs
+
+loop-again : tie.Need-loop-again Inv-loop μ-loop
+loop-again c = search needs
+
+same-length : tie.Need-same-length Inv-loop μ-loop
+same-length c = search needs
+
+same-length-2 : tie.Need-same-length-2 Inv-loop μ-loop
+same-length-2 c = search needs
+
+returns : tie.Need-returns Inv-loop μ-loop
+returns c = search needs
+
+pub wk-script-spec : {M : Type 1} → statement M
+wk-script-spec =
+    tie.close
+    (tie.spec
+    Inv-loop
+    μ-loop
+    open-requires
+    loop-holds
+    mul-at
+    mul-wide
+    shared-slice-read-wide
+    wide-requires
+    add-wide
+    mul-wide-2
+    shared-slice-read-wide-2
+    wide-requires-2
+    add-access
+    mul-access
+    shared-slice-read-access
+    add-access-2
+    mul-access-2
+    shared-slice-read-access-2
+    access-requires
+    access-word-requires
+    mixed-requires
+    add-i
+    loop-less
+    loop-again
+    same-length
+    same-length-2
+    returns)

@@ -1,0 +1,186 @@
+// One call each, for a caller that compares answers: every field of the answer is put into `answer`, from its start, in the
+// order in which the library's struct has them; a state or a run is put where it was lent.
+ghost use mathlib.Core.Path.{_≡_};
+ghost use Prim.Native.Nat.{_≤_};
+ghost use lib.ListN.{length, set};
+ghost use Rattle.reader.specs.Calls.{checkedOf, bodyPart, bodyChecked};
+ghost use Rattle.reader.specs.Parse.{parse};
+ghost use Rattle.replayer.specs.OpenOf.{openOf};
+ghost use Rattle.replayer.specs.Alike.{sameOutcomeOf};
+use crate::layout::put_run;
+use crate::layout::put_state;
+use crate::layout::run_of;
+use crate::layout::state_of;
+use replayer::alike::same_outcome;
+use replayer::lowest_ready;
+use replayer::ready;
+use replayer::ready_count;
+use replayer::to_end::replay_to_end;
+
+#[no_mangle]
+pub extern "C" fn wk_open(
+    tasks: usize,
+    objects: usize,
+    owners: &[u8],
+    starts: &[u32],
+    memory: &mut [u32],
+    out: &mut [u8],
+    halves: &mut [u16; 548],
+    words: &mut [u32; 273],
+    answer: &mut [usize; 6],
+) {
+    let r = recorder::open(tasks, objects, owners, starts, memory, out);
+    answer[0] = r.number as usize;
+    answer[1] = r.written;
+    let state = r.state;
+    put_state(state, halves, words);
+}
+
+#[no_mangle]
+pub extern "C" fn wk_access(
+    halves: &mut [u16; 548],
+    words: &mut [u32; 273],
+    task: usize,
+    object: usize,
+    sort: u32,
+    value: u32,
+    memory: &mut [u32],
+    out: &mut [u8],
+    answer: &mut [usize; 6],
+) {
+    let before = state_of(halves, words);
+    let r = recorder::access(before, task, object, sort, value, memory, out);
+    answer[0] = r.number as usize;
+    answer[1] = r.value as usize;
+    answer[2] = r.row as usize;
+    answer[3] = r.class as usize;
+    answer[4] = r.written;
+    let state = r.state;
+    put_state(state, halves, words);
+}
+
+#[no_mangle]
+pub extern "C" fn wk_section(
+    halves: &[u16; 548],
+    words: &[u32; 273],
+    task: usize,
+    log: &[u8],
+    out: &mut [u8],
+    answer: &mut [usize; 6],
+) {
+    let state = state_of(halves, words);
+    let r = recorder::section(state, task, log, out);
+    answer[0] = r.number as usize;
+    answer[1] = r.offset;
+    answer[2] = r.written;
+}
+
+#[no_mangle]
+pub extern "C" fn wk_check(bytes: &[u8], answer: &mut [usize; 6])
+    ensures { λ _. ⌜ now (answer .exit) ≡ set (set (now (answer .entry)) 0 (checkedOf (parse (now (bytes .entry))) .number)) 1 (checkedOf (parse (now (bytes .entry))) .offset) ⌝ }
+{
+    let r = reader::check(bytes);
+    answer[0] = r.number as usize;
+    answer[1] = r.offset;
+}
+
+fn least(a: usize, b: usize) -> usize
+    ensures { λ r. ⌜ (r ≤ a) × (r ≤ b) ⌝ }
+{
+    if a < b { a } else { b }
+}
+
+// The body itself, as far as there is room for it, and its length: an exported function cannot hand back a part of a slice.
+#[no_mangle]
+pub extern "C" fn wk_body(bytes: &[u8], task: usize, out: &mut [u8]) -> usize
+    ensures { λ r. ⌜ r ≡ length (bodyPart (parse (now (bytes .entry))) task (now (bytes .entry))) ⌝ }
+{
+    let body = reader::body(bytes, task);
+    let n = least(body.len(), out.len());
+    for i in 0..n {
+        out[i] = body[i];
+    }
+    body.len()
+}
+
+#[no_mangle]
+pub extern "C" fn wk_body_check(bytes: &[u8], task: usize, answer: &mut [usize; 6])
+    ensures { λ _. ⌜ now (answer .exit) ≡ set (set (now (answer .entry)) 0 (bodyChecked (parse (now (bytes .entry))) task .number)) 1 (bodyChecked (parse (now (bytes .entry))) task .offset) ⌝ }
+{
+    let r = reader::body_check(bytes, task);
+    answer[0] = r.number as usize;
+    answer[1] = r.offset;
+}
+
+#[no_mangle]
+pub extern "C" fn wk_replay_open(
+    bytes: &[u8],
+    memory: &mut [u32],
+    places: &mut [usize; 66],
+    answer: &mut [usize; 6],
+)
+    ensures { λ _. ⌜ now (memory .exit) ≡ openOf (now (bytes .entry)) (now (memory .entry)) .memory ⌝ }
+    ensures { λ _. ⌜ now (answer .exit) ≡ set (set (now (answer .entry)) 0 (openOf (now (bytes .entry)) (now (memory .entry)) .answer .number)) 1 (openOf (now (bytes .entry)) (now (memory .entry)) .answer .offset) ⌝ }
+{
+    let r = replayer::open(bytes, memory);
+    answer[0] = r.number as usize;
+    answer[1] = r.offset;
+    let run = r.run;
+    put_run(run, places);
+}
+
+#[no_mangle]
+pub extern "C" fn wk_ready(places: &[usize; 66], bytes: &[u8], answer: &mut [usize; 6]) {
+    let run = run_of(places);
+    let r = ready(run, bytes);
+    answer[0] = r.number as usize;
+    answer[1] = r.word as usize;
+    answer[2] = ready_count(r.word) as usize;
+    answer[3] = lowest_ready(r.word) as usize;
+}
+
+#[no_mangle]
+pub extern "C" fn wk_step(
+    places: &mut [usize; 66],
+    bytes: &[u8],
+    memory: &mut [u32],
+    task: usize,
+    answer: &mut [usize; 6],
+) {
+    let before = run_of(places);
+    let r = replayer::step(before, bytes, memory, task);
+    answer[0] = r.number as usize;
+    answer[1] = r.offset;
+    answer[2] = r.kind as usize;
+    answer[3] = r.object;
+    answer[4] = r.value as usize;
+    answer[5] = r.access;
+    let run = r.run;
+    put_run(run, places);
+}
+
+#[no_mangle]
+pub extern "C" fn wk_same_outcome(
+    first: &[u8],
+    second: &[u8],
+    first_memory: &mut [u32],
+    second_memory: &mut [u32],
+    answer: &mut [usize; 6],
+)
+    ensures { λ _. ⌜ now («first_memory» .exit) ≡ sameOutcomeOf (now (first .entry)) (now (second .entry)) (now («first_memory» .entry)) (now («second_memory» .entry)) .first ⌝ }
+    ensures { λ _. ⌜ now («second_memory» .exit) ≡ sameOutcomeOf (now (first .entry)) (now (second .entry)) (now («first_memory» .entry)) (now («second_memory» .entry)) .second ⌝ }
+{
+    let r = same_outcome(first, second, first_memory, second_memory);
+    answer[0] = r.number as usize;
+    answer[1] = r.offset;
+    answer[2] = r.alike as usize;
+}
+
+#[no_mangle]
+pub extern "C" fn wk_replay_to_end(bytes: &[u8], memory: &mut [u32], answer: &mut [usize; 6]) {
+    let r = replay_to_end(bytes, memory);
+    answer[0] = r.number as usize;
+    answer[1] = r.offset;
+    answer[2] = r.steps;
+    answer[3] = r.finished as usize;
+}
