@@ -1,10 +1,9 @@
 -- The comparison as the code does it, over plain variables: what the two plays and the tests came to.
 use mathlib.Core.Path.{_≡_, sym, _∙_}
-use mathlib.Core.Bool.{Bool, _&&_}
+use mathlib.Core.Bool.{Bool}
 use mathlib.Core.List.{List}
 use Prim.Native.Nat.{ℕ}
 use native.Mathlib.Omega.{arith}
-use lib.Dec.{eqb}
 use lib.ListN.{length}
 use borrow.Author.Tests.{eq-eqb, ne-eqb}
 use Rattle.codec.specs.Number.{entries as wrongLength}
@@ -15,7 +14,7 @@ use Rattle.replayer.specs.declared.finish.Played.{Played}
 use Rattle.replayer.specs.Alike.{sameEntries, alikeOf, refusing, comparing, compared, sameOutcomeOf}
 use Rattle.replayer.specs.Finish.{Play, shownPlay}
 use Rattle.replayer.specs.ToEnd.{playOf}
-use Rattle.replayer.specs.ToEndTurn.{Surveyed, away, found, surveyed}
+use Rattle.replayer.specs.ToEndTurn.{away, found, surveyed}
 
 -- what the two plays and the two tests on them came to
 pub compares : (x y : Play) (p q : Played) (m n : List ℕ) (s a : Bool) → p ≡ shownPlay x → q ≡ shownPlay y → m ≡ x .memory → n ≡ y .memory → s ≡ sameEntries m n → a ≡ alikeOf p q s

@@ -1,6 +1,6 @@
 -- A play comes to its end: each step of a ready task leaves one access fewer, so the steps that are allowed never run out, and at the
 -- end no task is ready.
-use mathlib.Core.Path.{_≡_, refl, sym, ap, _∙_}
+use mathlib.Core.Path.{_≡_, refl, sym, _∙_}
 use mathlib.Core.Bool.{Bool, true, false}
 use mathlib.Core.List.{List}
 use Prim.Native.Nat.{ℕ, zero, suc, _+_, _*_, _-_, _≤_, _<_}
@@ -19,8 +19,7 @@ use Rattle.replayer.specs.ReadyOf.{isReady, readyOf}
 use Rattle.replayer.specs.Run.{taskAt, movedOf}
 use Rattle.replayer.specs.Sound.{soundOf, sound-facts}
 use Rattle.replayer.specs.StepLaws.{Goes, taken, turned, step-goes, step-keeps}
-use Rattle.replayer.specs.StepOf.{stepOf}
-use Rattle.replayer.specs.Word.{bit, wordOf, lowestReady}
+use Rattle.replayer.specs.Word.{bit, wordOf}
 
 -- a sound run with a memory of N entries
 pub record Playing (b : List ℕ) (x : Play) : Type 0 where

@@ -25,7 +25,7 @@ use Rattle.replayer.specs.declared.TaskRun.{TaskRun}
 use Rattle.replayer.specs.declared.next.Look.the-variants.{Open as LookOpen, Held as LookHeld, Refused as LookRefused}
 use Rattle.replayer.specs.declared.next.Next.the-variants.{Open, Held, Refused}
 use Rattle.replayer.specs.Dones.{donesOf, dones-at}
-use Rattle.replayer.specs.Look.{Awaits, Looks}
+use Rattle.replayer.specs.Look.{Looks}
 use Rattle.replayer.specs.Met.{allMet}
 use Rattle.replayer.specs.Next.{judged}
 use Rattle.replayer.specs.OrderingAt.{positionAt, ordering-at}

@@ -1,7 +1,7 @@
 -- A task visited on the way to the lowest that is ready, with a note of what each held task waits for. A note says: while its position
 -- is not done, the task is not ready, whatever else is done.
 use mathlib.Core.Path.{_≡_, refl, sym, ap, _∙_}
-use mathlib.Core.Bool.{true, false, _&&_}
+use mathlib.Core.Bool.{true, false}
 use mathlib.Core.List.{List}
 use Prim.Native.Nat.{ℕ, zero, suc, _+_, _≤_, _<_}
 use native.Mathlib.Omega.{arith}
@@ -19,7 +19,7 @@ use Rattle.replayer.specs.declared.next.Look.{Look}
 use Rattle.replayer.specs.declared.next.Look.the-variants.{Held as LookHeld}
 use Rattle.replayer.specs.declared.next.Next.{Next}
 use Rattle.replayer.specs.declared.next.Next.the-variants.{Open, Held}
-use Rattle.replayer.specs.Dones.{donesOf, dones-at}
+use Rattle.replayer.specs.Dones.{dones-at}
 use Rattle.replayer.specs.Look.{asNext, Looks, OneTask, readingOf, look-next, look-held}
 use Rattle.replayer.specs.Moved.{Shaped, moved-own, moved-other, moved-tasks, moved-objects}
 use Rattle.replayer.specs.Next.{entryNext, judged, nextOf, isOpen}

@@ -4,7 +4,6 @@ ghost use Prim.Native.Nat.{_<_};
 ghost use Rattle.replayer.specs.Finish.{leftOver, finishOf, shownPlay, tasksIn, finishedOf};
 ghost use Rattle.replayer.specs.FinishLaws.{Playing};
 use crate::Run;
-use crate::TaskRun;
 use crate::effect::advanced;
 use crate::effect::perform;
 use crate::next::Next;
