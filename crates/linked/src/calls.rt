@@ -7,6 +7,7 @@ ghost use Rattle.reader.specs.Calls.{checkedOf, bodyPart, bodyChecked};
 ghost use Rattle.reader.specs.Parse.{parse};
 ghost use Rattle.replayer.specs.OpenOf.{openOf};
 ghost use Rattle.replayer.specs.Alike.{sameOutcomeOf};
+ghost use Rattle.replayer.specs.ToEnd.{toEndOf};
 use crate::layout::put_run;
 use crate::layout::put_state;
 use crate::layout::run_of;
@@ -177,7 +178,9 @@ pub extern "C" fn wk_same_outcome(
 }
 
 #[no_mangle]
-pub extern "C" fn wk_replay_to_end(bytes: &[u8], memory: &mut [u32], answer: &mut [usize; 6]) {
+pub extern "C" fn wk_replay_to_end(bytes: &[u8], memory: &mut [u32], answer: &mut [usize; 6])
+    ensures { λ _. ⌜ now (memory .exit) ≡ toEndOf (now (bytes .entry)) (now (memory .entry)) .memory ⌝ }
+{
     let r = replay_to_end(bytes, memory);
     answer[0] = r.number as usize;
     answer[1] = r.offset;
