@@ -135,47 +135,76 @@ fn access_row(random: &mut Random, tasks: usize, objects: usize) {
     row(&work, "ns", 1e9 / count as f64, &times, other);
 }
 
-fn recording_rows(random: &mut Random, limit: usize) {
+/// Many recordings, so that no branch predictor learns them: a call does all of them, and a figure is for one.
+fn recording_rows(random: &mut Random, limit: usize, count: usize) {
     let objects = 140;
-    let script = script(random, 9, objects, 20_000);
-    let Recording {
-        state,
-        logs,
-        ends,
-        bytes,
-    } = record(&script, limit);
-    let size = bytes.len();
-    let linked = ours::State::of(&state);
-    let mut out = vec![0; size];
+    let recordings: Vec<Recording> = (0..count)
+        .map(|_| record(&script(random, 9, objects, limit / 3), limit))
+        .collect();
+    let size = recordings.iter().map(|r| r.bytes.len()).sum::<usize>() / count;
+    let states: Vec<ours::State> = recordings.iter().map(|r| ours::State::of(&r.state)).collect();
+    let scale = 1e6 / count as f64;
+    let all = black_box(&recordings);
+
+    let mut out = vec![0; limit];
     let mut out_2 = out.clone();
     let times = best([
-        &mut || ours::pack(&linked, black_box(&logs), &ends, &mut out) as u64,
-        &mut || theirs::pack(&state, black_box(&logs), &ends, &mut out_2) as u64,
+        &mut || {
+            all.iter()
+                .zip(&states)
+                .map(|(r, state)| ours::pack(state, &r.logs, &r.ends, &mut out) as u64)
+                .sum()
+        },
+        &mut || {
+            all.iter()
+                .map(|r| theirs::pack(&r.state, &r.logs, &r.ends, &mut out_2) as u64)
+                .sum()
+        },
     ]);
-    assert!(out == out_2 && bytes.ends_with(&out[..size - 8 - 5 * objects]));
-    row(&format!("9 sections, {size} bytes"), "us", 1e6, &times, "");
+    assert!(out == out_2);
+    row(&format!("9 sections, {size} bytes"), "us", scale, &times, "");
 
     let times = best([
-        &mut || ours::check(black_box(&bytes))[0] as u64,
-        &mut || reader::check(black_box(&bytes)).number.into(),
+        &mut || all.iter().map(|r| ours::check(&r.bytes)[0] as u64).sum(),
+        &mut || {
+            all.iter()
+                .map(|r| u64::from(reader::check(&r.bytes).number))
+                .sum()
+        },
     ]);
-    row(&format!("check, {size} bytes"), "us", 1e6, &times, "");
+    row(&format!("check, {size} bytes"), "us", scale, &times, "");
 
     let mut memory = vec![0; objects];
     let mut memory_2 = memory.clone();
     let times = best([
-        &mut || ours::replay_to_end(black_box(&bytes), &mut memory)[2] as u64,
-        &mut || theirs::replay_to_end(black_box(&bytes), &mut memory_2)[2] as u64,
+        &mut || {
+            all.iter()
+                .map(|r| ours::replay_to_end(&r.bytes, &mut memory)[2] as u64)
+                .sum()
+        },
+        &mut || {
+            all.iter()
+                .map(|r| theirs::replay_to_end(&r.bytes, &mut memory_2)[2] as u64)
+                .sum()
+        },
     ]);
     assert!(memory == memory_2);
-    row(&format!("replay to the end, {size} bytes"), "us", 1e6, &times, "");
+    row(&format!("replay to the end, {size} bytes"), "us", scale, &times, "");
 
     let times = best([
-        &mut || ours::replay(black_box(&bytes), &mut memory),
-        &mut || theirs::replay_by_word(black_box(&bytes), &mut memory_2),
+        &mut || {
+            all.iter()
+                .map(|r| ours::replay(&r.bytes, &mut memory))
+                .fold(0, |a, b| a ^ b)
+        },
+        &mut || {
+            all.iter()
+                .map(|r| theirs::replay_by_word(&r.bytes, &mut memory_2))
+                .fold(0, |a, b| a ^ b)
+        },
     ]);
     assert!(memory == memory_2);
-    row(&format!("replay by word, {size} bytes"), "us", 1e6, &times, "");
+    row(&format!("replay by word, {size} bytes"), "us", scale, &times, "");
 }
 
 pub fn print() {
@@ -187,6 +216,6 @@ pub fn print() {
     let mut random = Random(1);
     access_row(&mut random, 9, 140);
     access_row(&mut random, 16, 256);
-    recording_rows(&mut random, 65_535);
-    recording_rows(&mut random, 4_096);
+    recording_rows(&mut random, 65_535, 16);
+    recording_rows(&mut random, 4_096, 256);
 }
