@@ -214,6 +214,7 @@ pub fn print() {
         "", "ours", "theirs", "", "ratio", "theirs", "ratio"
     );
     let mut random = Random(1);
+    access_row(&mut random, 9, 1);
     access_row(&mut random, 9, 140);
     access_row(&mut random, 16, 256);
     recording_rows(&mut random, 65_535, 16);
