@@ -1,16 +1,22 @@
--- Soundness as a scan finds it: the marks first, then the objects one by one.
-use mathlib.Core.Bool.{true, false, _&&_, and-eq-true-iff}
-use mathlib.Core.Path.{_≡_, refl, _∙_}
-use Prim.Native.Nat.{ℕ, _≤_, _<_}
+-- Soundness as the calls find it: all but the objects first, then the objects one by one.
+use mathlib.Core.Bool.{Bool, true, false, _&&_, and-true, and-false, and-eq-true-iff}
+use mathlib.Core.Path.{_≡_, sym, ap}
+use Prim.Native.Nat.{ℕ, _+_, _≤_, _<_, min}
+use native.Mathlib.Numerals.{add-one}
+use native.Mathlib.Omega.{arith}
+use Rattle.codec.specs.Decide.{passes, fails, split}
 use Rattle.tracker.specs.Marks.{marksOf}
 use Rattle.tracker.specs.Range.{isWithin, within-facts, allBelow, all-fails}
-use Rattle.tracker.specs.Sound.{lastSound, marksSound, objectSoundAt, soundOf}
+use Rattle.tracker.specs.Sound.{lastSound, tasksSound, objectSoundAt, soundOf}
 use Rattle.tracker.specs.declared.Marks.{Marks}
 use Rattle.tracker.specs.declared.State.{State}
 
-pub sound-parts : (s : State) → soundOf s ≡ (marksSound (marksOf s) && allBelow (objectSoundAt s) (s .objects))
-unfolding soundOf marksSound
-sound-parts s = refl
+-- all but the objects
+unfoldable pub marksSound : Marks → Bool
+marksSound m =
+    isWithin 1 16 (m .tasks) && isWithin 1 256 (m .objects)
+    && lastSound (m .last) (m .tasks) (m .shares) (m .done)
+    && tasksSound (m .tasks) (m .shares) (m .done) (m .seen) (m .took)
 
 -- sound marks keep T and N in range
 pub marks-low : (m : Marks) → marksSound m ≡ true → (m .tasks ≤ 16) × (m .objects ≤ 256)
@@ -21,11 +27,27 @@ marks-low m e =
     (within-facts 1 16 _ (b .0) .1, within-facts 1 256 _ (b .1) .1)
 
 module _ (s : State) where
-  pub marks-bad : marksSound (marksOf s) ≡ false → soundOf s ≡ false
-  marks-bad e = sound-parts s ∙ rw e
+  -- what is found after n objects
+  unfoldable pub soundTo : ℕ → Bool
+  soundTo n = marksSound (marksOf s) && allBelow (objectSoundAt s) n
 
-  pub object-bad : (i : ℕ) → marksSound (marksOf s) ≡ true → i < s .objects → objectSoundAt s i ≡ false → soundOf s ≡ false
-  object-bad i e h f = sound-parts s ∙ rw (e, all-fails (objectSoundAt s) (s .objects) i h f)
+  pub scan-none : marksSound (marksOf s) ≡ soundTo 0
+  unfolding soundTo allBelow
+  scan-none = sym (and-true (marksSound (marksOf s)))
 
-  pub all-good : marksSound (marksOf s) ≡ true → allBelow (objectSoundAt s) (s .objects) ≡ true → soundOf s ≡ true
-  all-good e f = sound-parts s ∙ rw (e, f)
+  pub scan-more : (n : ℕ) → objectSoundAt s n ≡ true → soundTo n ≡ soundTo (n + 1)
+  unfolding soundTo allBelow
+  scan-more n e = rw (add-one, e, and-true)
+
+  -- an object that is not sound ends the scan
+  pub scan-bad : (n : ℕ) → n < s .objects → objectSoundAt s n ≡ false → soundOf s ≡ false
+  unfolding soundOf marksSound
+  scan-bad n h e = rw (all-fails (objectSoundAt s) (s .objects) n h e) (and-false (marksSound (marksOf s)))
+
+  -- all objects that have a record
+  pub scan-all : soundTo (min (s .objects) 256) ≡ soundOf s
+  unfolding soundTo soundOf marksSound
+  scan-all = elim (split (marksSound (marksOf s))) [
+    | passes p ↦ ap (λ (n : ℕ). marksSound (marksOf s) && allBelow (objectSoundAt s) n) (omega (arith, marks-low (marksOf s) p .1))
+    | fails p ↦ rw p
+  ]

@@ -10,7 +10,6 @@ use Rattle.tracker.specs.Range.{isWithin, allBelow}
 use Rattle.tracker.specs.Sum.{sumOf}
 use Rattle.tracker.specs.declared.Locality.{Locality}
 use Rattle.tracker.specs.declared.Locality.the-variants.{WriteExclusive, ReadExclusive, ReadShared}
-use Rattle.tracker.specs.declared.Marks.{Marks}
 use Rattle.tracker.specs.declared.State.{State}
 
 -- "G above 0 without Last"; of a Last that is kept: "any task kept not below T", and "Last beyond that task's Done".
@@ -38,13 +37,6 @@ tasksSound tasks shares done seen took = allBelow (taskSoundAt done seen took sh
 
 abbrev pub objectSoundAt : State → ℕ → Bool
 objectSoundAt s i = objectSound (localityOf s i) (s .tasks) (s .shares)
-
--- all but the objects
-unfoldable pub marksSound : Marks → Bool
-marksSound m =
-    isWithin 1 16 (m .tasks) && isWithin 1 256 (m .objects)
-    && lastSound (m .last) (m .tasks) (m .shares) (m .done)
-    && tasksSound (m .tasks) (m .shares) (m .done) (m .seen) (m .took)
 
 -- "T, N out of range" and all of the above
 unfoldable pub soundOf : State → Bool

@@ -2,7 +2,8 @@ use mathlib.Core.Bool.{true}
 use mathlib.Core.Path.{_≡_, _∙_, sym}
 use borrow.Author.Tests.{not-true, not-false}
 use Rattle.tracker.specs.Range.{isWithin, within-facts}
-use Rattle.tracker.specs.Sound.{marksSound, lastSound}
+use Rattle.tracker.specs.Scan.{marksSound}
+use Rattle.tracker.specs.Sound.{lastSound}
 use borrow.Author.Needs.{needs}
 use Rattle.tracker.proofs.sound.marks_sound.Statement.{statement}
 use Rattle.tracker.proofs.sound.marks_sound.Tie as tie
