@@ -149,7 +149,7 @@ module _ (m : Limits) (b dones : List ℕ) (from end place at : ℕ) (w : Ahead 
   unfolding judged allMet
   open-read runs e h = rw h
 
-  pub ahead-open : at ≤ place → (runs : List TaskRun) → donesOf runs ≡ dones → isOpen (judged runs from (groupAt m b from end)) ≡ true
+  ahead-open : at ≤ place → (runs : List TaskRun) → donesOf runs ≡ dones → isOpen (judged runs from (groupAt m b from end)) ≡ true
   ahead-open h runs e = elim ahead-case [
     | last x ↦ rw (← w .same runs (done-all dones runs e), w .reads) (open-read runs (w .entry) (x .none))
     | more x ↦ absurd (omega (arith, w .stands, count-more x))
