@@ -8,14 +8,10 @@ use mathlib.Core.Bool.{true, false}
 use Rattle.reader.proofs.entry.Found.{the-type as found-type}
 use Rattle.reader.specs.declared.entry.Found.{Found}
 use Rattle.reader.specs.declared.entry.Found.the-variants.{Access as FoundAccess, Refused as FoundRefused}
-use Rattle.replayer.proofs.next.Look.{the-type as look-type}
 use Rattle.replayer.proofs.next.Next.{the-type as next-type}
 use Rattle.replayer.specs.declared.Run.{Run}
-use Rattle.replayer.specs.declared.next.Look.{Look}
-use Rattle.replayer.specs.declared.next.Look.the-variants.{Open as LookOpen, Held as LookHeld, Refused as LookRefused}
 use Rattle.replayer.specs.declared.next.Next.{Next}
 use Rattle.replayer.specs.declared.next.Next.the-variants.{Open, Held, Refused}
-use Rattle.replayer.specs.Look.{asNext}
 use Rattle.replayer.specs.Next.{refusalOf, isOpen}
 use Rattle.replayer.specs.StepOf.{refusedStep, haltOf, onNext}
 
@@ -30,15 +26,10 @@ not-open run memory task (Open o k) h = absurd (miss (1 ∷ 2 ∷ []) 0 tt h)
 not-open run memory task Held h = refl
 not-open run memory task (Refused c) h = refl
 
-pub open-bit : (l : Look) → OneOf (0 ∷ []) (tagOf look-type l) → isOpen (asNext l) ≡ true
-open-bit (LookOpen o k) h = refl
-open-bit (LookHeld p) h = absurd (miss (0 ∷ []) 1 tt h)
-open-bit (LookRefused c) h = absurd (miss (0 ∷ []) 2 tt h)
-
-pub closed-bit : (l : Look) → OneOf (1 ∷ 2 ∷ []) (tagOf look-type l) → isOpen (asNext l) ≡ false
-closed-bit (LookOpen o k) h = absurd (miss (1 ∷ 2 ∷ []) 0 tt h)
-closed-bit (LookHeld p) h = refl
-closed-bit (LookRefused c) h = refl
+pub open-next : (n : Next) → OneOf (0 ∷ []) (tagOf next-type n) → isOpen n ≡ true
+open-next (Open o k) h = refl
+open-next Held h = absurd (miss (0 ∷ []) 1 tt h)
+open-next (Refused c) h = absurd (miss (0 ∷ []) 2 tt h)
 
 pub closed-next : (n : Next) → OneOf (1 ∷ 2 ∷ []) (tagOf next-type n) → isOpen n ≡ false
 closed-next (Open o k) h = absurd (miss (1 ∷ 2 ∷ []) 0 tt h)

@@ -1,9 +1,7 @@
--- What looking at a task's next group tells: the access that may be done, the first ordering that is not met, or the refusal. An
--- ordering that is not met holds the task for as long as it is not met, whatever else is done.
+-- What looking at a task's next group tells: what stands next, by the counts done.
 use mathlib.Core.Path.{_≡_}
 use mathlib.Core.List.{List}
-use Prim.Native.Nat.{ℕ, _<_}
-use Rattle.codec.specs.declared.Position.{Position}
+use Prim.Native.Nat.{ℕ}
 use Rattle.codec.specs.Number.{inBody}
 use Rattle.reader.specs.declared.Limits.{Limits}
 use Rattle.reader.specs.Entry.{entryOf}
@@ -12,29 +10,18 @@ use Rattle.reader.specs.Reading.{Reading, stop}
 use Rattle.reader.specs.Recording.{Entry}
 use Rattle.replayer.specs.declared.Run.{Run}
 use Rattle.replayer.specs.declared.TaskRun.{TaskRun}
-use Rattle.replayer.specs.declared.next.Look.{Look}
-use Rattle.replayer.specs.declared.next.Look.the-variants.{Open as LookOpen, Held as LookHeld, Refused as LookRefused}
 use Rattle.replayer.specs.declared.next.Next.{Next}
-use Rattle.replayer.specs.declared.next.Next.the-variants.{Open, Held, Refused}
 use Rattle.replayer.specs.Dones.{donesOf}
 use Rattle.replayer.specs.Next.{entryNext, judged, nextOf}
-use Rattle.replayer.specs.Run.{taskAt, doneOf, limitsOf}
+use Rattle.replayer.specs.Run.{taskAt, limitsOf}
 
--- without the ordering that holds it
-abbrev pub asNext : Look → Next
-asNext (LookOpen op next) = Open op next
-asNext (LookHeld p) = Held
-asNext (LookRefused c) = Refused c
+-- the group that is read from a place up to a body's end
+abbrev pub groupAt : Limits → List ℕ → ℕ → ℕ → Reading Entry
+groupAt m b place end = entryOf m (stop inBody place) place (part place end b)
 
--- the position that an entry waits for
-pub record Awaits (m : Limits) (from : ℕ) (x : Reading Entry) (p : Position) : Type 0 where
-  pub below : p .task < m .tasks
-  pub stays : (other : List TaskRun) → doneOf other (p .task) < p .number → judged other from x ≡ Held
-
--- an entry that starts at a place, looked at with the counts done
-pub record Looks (m : Limits) (dones : List ℕ) (from : ℕ) (x : Reading Entry) (l : Look) : Type 0 where
-  pub same : (runs : List TaskRun) → donesOf runs ≡ dones → asNext l ≡ judged runs from x
-  pub held : (p : Position) → l ≡ LookHeld p → Awaits m from x p
+-- a group that starts at a place, looked at with the counts done
+abbrev pub Looks : List ℕ → ℕ → Reading Entry → Next → Type 0
+Looks dones from x n = (runs : List TaskRun) → donesOf runs ≡ dones → n ≡ judged runs from x
 
 -- what the code has of a run where it looks at a task: the task's record, T, N and the counts done
 pub record OneTask (r : Run) (t : ℕ) (x : TaskRun) (m : Limits) (dones : List ℕ) : Type 0 where
@@ -42,16 +29,7 @@ pub record OneTask (r : Run) (t : ℕ) (x : TaskRun) (m : Limits) (dones : List 
   pub limits : m ≡ limitsOf r t
   pub counts : donesOf (r .runs) ≡ dones
 
--- the reading of a task's next entry
-abbrev pub readingOf : Limits → TaskRun → List ℕ → Reading Entry
-readingOf m x b = entryOf m (stop inBody (x .place)) (x .place) (part (x .place) (x .end) b)
-
-module _ (r : Run) (b : List ℕ) (t : ℕ) (x : TaskRun) (m : Limits) (dones : List ℕ) (w : OneTask r t x m dones) (l : Look)
-    (k : Looks m dones (x .place) (readingOf m x b) l) where
-  pub look-next : asNext l ≡ nextOf r b t
-  unfolding nextOf entryNext
-  look-next = rw (w .task, w .limits) at (k .same (r .runs) (w .counts))
-
-  pub look-held : (p : Position) → l ≡ LookHeld p → Awaits m (taskAt (r .runs) t .place) (entryNext r b t) p
-  unfolding entryNext
-  look-held p e = rw (← w .task, ← w .limits) (k .held p e)
+pub look-next : (r : Run) (b : List ℕ) (t : ℕ) (x : TaskRun) (m : Limits) (dones : List ℕ) → OneTask r t x m dones → (n : Next)
+    → Looks dones (x .place) (groupAt m b (x .place) (x .end)) n → n ≡ nextOf r b t
+unfolding nextOf entryNext
+look-next r b t x m dones w n k = rw (w .task, w .limits) at (k (r .runs) (w .counts))

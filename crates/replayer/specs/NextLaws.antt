@@ -31,7 +31,7 @@ pub record OpenEntry (runs : List TaskRun) (at : ℕ) (x : Reading Entry) (o : O
   pub op : o ≡ entry .op
   pub next : n ≡ at + entryLength entry
 
-judged-open : (runs : List TaskRun) (at : ℕ) (x : Reading Entry) (o : Op) (n : ℕ) → judged runs at x ≡ Open o n → OpenEntry runs at x o n
+pub judged-open : (runs : List TaskRun) (at : ℕ) (x : Reading Entry) (o : Op) (n : ℕ) → judged runs at x ≡ Open o n → OpenEntry runs at x o n
 unfolding judged
 judged-open runs at (refused c) o n h = absurd (let z : _≡_ {A = ℕ} 0 1 = cc in omega arith)
 judged-open runs at (read e) o n h = elim (split (allMet runs (e .orderings))) [

@@ -1,14 +1,14 @@
 -- One turn of the loop that judges the orderings of a group that was read, over plain variables.
 use mathlib.Core.Path.{_≡_, refl, sym, ap, _∙_}
-use mathlib.Core.Bool.{Bool, true, false, cond, _&&_}
-use mathlib.Core.List.{List, _∷_}
-use Prim.Native.Nat.{ℕ, _+_, _*_, _-_, _≤_, _<_}
+use mathlib.Core.Bool.{true}
+use mathlib.Core.List.{List, [], _∷_}
+use Prim.Native.Nat.{ℕ, _+_, _*_, _≤_, _<_}
 use native.Mathlib.Omega.{arith}
-use lib.Dec.{leb}
 use lib.ListN.{length, getD}
 use borrow.Author.Tests.{le-leb, lt-leb}
 use Rattle.codec.specs.declared.Op.{Op}
 use Rattle.codec.specs.declared.Position.{Position}
+use Rattle.codec.specs.Decide.{passes, fails, split}
 use Rattle.codec.specs.Number.{inBody, misplaced}
 use Rattle.reader.specs.declared.Checked.{Checked}
 use Rattle.reader.specs.declared.Limits.{Limits}
@@ -16,125 +16,160 @@ use Rattle.reader.specs.declared.entry.Found.{Found}
 use Rattle.reader.specs.declared.entry.Found.the-variants.{Access as FoundAccess, Refused as FoundRefused}
 use Rattle.reader.specs.Answers.{found, found-refused}
 use Rattle.reader.specs.Bytes.{entryLength}
-use Rattle.reader.specs.Entry.{entryOf}
+use Rattle.reader.specs.Entry.{entry-ended}
 use Rattle.reader.specs.EntryCase.{EntryCase, More, last, more, entry-case, found-entry}
 use Rattle.reader.specs.Part.{part, part-drop, part-length}
-use Rattle.reader.specs.Reading.{Reading, read, stop}
+use Rattle.reader.specs.Reading.{Reading, refused, read, stop}
 use Rattle.reader.specs.Recording.{Entry}
 use Rattle.replayer.specs.declared.TaskRun.{TaskRun}
-use Rattle.replayer.specs.declared.next.Look.the-variants.{Open as LookOpen, Held as LookHeld, Refused as LookRefused}
+use Rattle.replayer.specs.declared.next.Next.{Next}
 use Rattle.replayer.specs.declared.next.Next.the-variants.{Open, Held, Refused}
 use Rattle.replayer.specs.Dones.{donesOf, dones-at}
-use Rattle.replayer.specs.Look.{Looks}
+use Rattle.replayer.specs.Look.{groupAt, Looks}
 use Rattle.replayer.specs.Met.{allMet}
-use Rattle.replayer.specs.Next.{judged}
+use Rattle.replayer.specs.Next.{judged, isOpen}
 use Rattle.replayer.specs.OrderingAt.{positionAt, ordering-at}
 use Rattle.replayer.specs.Run.{doneOf}
 
--- the orderings from a place on are still to be judged; judged, they give what the whole group gives, and one of them that is not met
--- holds it
-pub record Ahead (m : Limits) (b dones : List ℕ) (place end : ℕ) (op : Op) (at next from : ℕ) (whole : Reading Entry) : Type 0 where
+-- each task has done so many accesses or more
+abbrev pub DoneAll : List ℕ → List TaskRun → Type 0
+DoneAll dones runs = (s : ℕ) → s < 16 → getD dones s 0 ≤ doneOf runs s
+
+done-at : (dones : List ℕ) (runs : List TaskRun) → donesOf runs ≡ dones → (s : ℕ) → s < 16 → getD dones s 0 ≡ doneOf runs s
+done-at dones runs e s h = rw (← e) (dones-at runs s h)
+
+pub done-all : (dones : List ℕ) (runs : List TaskRun) → donesOf runs ≡ dones → DoneAll dones runs
+done-all dones runs e s h = omega (arith, done-at dones runs e s h)
+
+-- a group, whose access's record stands at `at`, with all orderings before a place met: its rest is judged as the whole, whatever more is
+-- done
+pub record Ahead (m : Limits) (b dones : List ℕ) (from end place at : ℕ) : Type 0 where
   pub few : m .tasks ≤ 16
-  pub ended : Checked
+  pub within : end ≤ length b
   pub entry : Entry
+  pub reads : groupAt m b place end ≡ read entry
   pub stands : at ≡ place + 8 * length (entry .orderings)
-  pub reads : entryOf m ended place (part place end b) ≡ read entry
-  pub same : (runs : List TaskRun) → donesOf runs ≡ dones → cond (allMet runs (entry .orderings)) (Open op next) Held ≡ judged runs from whole
-  pub held : (other : List TaskRun) → allMet other (entry .orderings) ≡ false → judged other from whole ≡ Held
+  pub same : (runs : List TaskRun) → DoneAll dones runs → judged runs place (groupAt m b place end) ≡ judged runs from (groupAt m b from end)
 
-judged-read : (runs : List TaskRun) (from : ℕ) (x : Reading Entry) (e : Entry) (o : Op) (n : ℕ) → x ≡ read e → o ≡ e .op → n ≡ from + entryLength e
-    → cond (allMet runs (e .orderings)) (Open o n) Held ≡ judged runs from x
-unfolding judged
-judged-read runs from x e o n p q r = rw (p, q, r)
+-- the same of some group
+pub record InGroup (b dones : List ℕ) (place at : ℕ) : Type 0 where
+  pub limits : Limits
+  pub from : ℕ
+  pub end : ℕ
+  pub ahead : Ahead limits b dones from end place at
 
-module _ (m : Limits) (b dones : List ℕ) (from end : ℕ) (f : Found)
-    (e : f ≡ found from (entryOf m (stop inBody from) from (part from end b))) where
-  pub next-refused : (c : Checked) → f ≡ FoundRefused c → Looks m dones from (entryOf m (stop inBody from) from (part from end b)) (LookRefused c)
-  unfolding judged
-  next-refused c q = record {
-    same = λ runs h. rw (found-refused from (entryOf m (stop inBody from) from (part from end b)) c (sym e ∙ q));
-    held = λ p h. absurd (let z : _≡_ {A = ℕ} 0 1 = cc in omega arith);
-  }
+-- a place up to which the orderings are judged: they are met, and one that stands there is not
+pub record Reached (m : Limits) (b dones : List ℕ) (from end place at : ℕ) : Type 0 where
+  pub ahead : Ahead m b dones from end place at
+  pub held : place < at → Looks dones from (groupAt m b from end) Held
 
-  pub ahead-start : m .tasks ≤ 16 → (o : Op) (a n : ℕ) → f ≡ FoundAccess o a n → Ahead m b dones from end o a n from (entryOf m (stop inBody from) from (part from end b))
-  ahead-start h o a n q =
-      let w = found-entry from (entryOf m (stop inBody from) from (part from end b)) o a n (sym e ∙ q) in
-      record {
-        few = h;
-        ended = stop inBody from;
-        entry = w .entry;
-        stands = w .place;
-        reads = w .reads;
-        same = λ runs k. judged-read runs from _ (w .entry) o n (w .reads) (w .op) (w .next);
-        held = λ other k. sym (rw k at (judged-read other from _ (w .entry) o n (w .reads) (w .op) (w .next)));
-      }
+-- how far any group that is judged up to a place can be judged from there
+abbrev pub Scanned : List ℕ → List ℕ → ℕ → ℕ → ℕ → Type 0
+Scanned b dones scan at place = (m : Limits) (from end : ℕ) → Ahead m b dones from end scan at → Reached m b dones from end place at
+
+pub ahead-later : (m : Limits) (b dones later : List ℕ) (from end place at : ℕ) → ((s : ℕ) → s < 16 → getD dones s 0 ≤ getD later s 0)
+    → Ahead m b dones from end place at → Ahead m b later from end place at
+ahead-later m b dones later from end place at g w = record {
+  few = w .few;
+  within = w .within;
+  entry = w .entry;
+  reads = w .reads;
+  stands = w .stands;
+  same = λ runs d. w .same runs (λ s h. omega (arith, g s h, d s h));
+}
+
+-- an access that was found is what is open, where anything is
+found-open : (runs : List TaskRun) (from : ℕ) (x : Reading Entry) (o : Op) (a n : ℕ) → found from x ≡ FoundAccess o a n → isOpen (judged runs from x) ≡ true
+    → Open o n ≡ judged runs from x
+unfolding found judged
+found-open runs from (refused c) o a n h k = absurd (let z : _≡_ {A = ℕ} 0 1 = cc in omega arith)
+found-open runs from (read e) o a n h k = elim (split (allMet runs (e .orderings))) [
+  | passes p ↦ rw p (cc)
+  | fails p ↦ absurd (let y = rw p at k in let z : _≡_ {A = ℕ} 0 1 = cc in omega arith)
+]
+
+-- a met ordering in front changes nothing, one that is not met holds the group
+module _ (runs : List TaskRun) (place : ℕ) (p : Position) (e : Entry) where
+  judged-met : p .number ≤ doneOf runs (p .task) → judged runs (place + 8) (read e) ≡ judged runs place (read (record { orderings = p ∷ e .orderings; op = e .op }))
+  unfolding judged allMet
+  judged-met h =
+      let o : place + 8 + entryLength e ≡ place + entryLength (record { orderings = p ∷ e .orderings; op = e .op }) = omega arith in
+      rw (le-leb (p .number) (doneOf runs (p .task)) h, o)
+
+  judged-unmet : doneOf runs (p .task) < p .number → judged runs place (read (record { orderings = p ∷ e .orderings; op = e .op })) ≡ Held
+  unfolding judged allMet
+  judged-unmet h = rw (lt-leb (p .number) (doneOf runs (p .task)) h)
 
 -- an ordering stands at a place: met, the rest is still ahead, and not met it holds the task
-pub record Passing (m : Limits) (b dones : List ℕ) (place end : ℕ) (op : Op) (at next from : ℕ) (whole : Reading Entry) (p : Position) : Type 0 where
-  pub room : place + 8 ≤ end
-  pub below : p .task < m .tasks
-  pub met : p .number ≤ getD dones (p .task) 0 → Ahead m b dones (place + 8) end op at next from whole
-  pub unmet : getD dones (p .task) 0 < p .number → Looks m dones from whole (LookHeld p)
+pub record Passing (m : Limits) (b dones : List ℕ) (from end place at : ℕ) (p : Position) : Type 0 where
+  pub room : place + 8 ≤ length b
+  pub below : p .task < 16
+  pub met : p .number ≤ getD dones (p .task) 0 → Ahead m b dones from end (place + 8) at
+  pub unmet : getD dones (p .task) 0 < p .number → Looks dones from (groupAt m b from end) Held
 
-pub and-false : (a : Bool) → (a && false) ≡ false
-and-false true = refl
-and-false false = refl
-
-module _ (m : Limits) (b dones : List ℕ) (place end : ℕ) (op : Op) (at next from : ℕ) (whole : Reading Entry) (w : Ahead m b dones place end op at next from whole) where
+module _ (m : Limits) (b dones : List ℕ) (from end place at : ℕ) (w : Ahead m b dones from end place at) where
   ahead-case : EntryCase m place (part place end b) (w .entry)
-  ahead-case = entry-case m place (part place end b) (w .entry) (w .ended) (w .reads)
-
-  one-more : (x : More m place (part place end b) (w .entry)) → w .entry .orderings ≡ x .first ∷ x .rest .orderings
-  one-more x = ap (λ (y : Entry). y .orderings) (x .same)
+  ahead-case = entry-case m place (part place end b) (w .entry) (stop inBody place) (w .reads)
 
   count-more : (x : More m place (part place end b) (w .entry)) → length (w .entry .orderings) ≡ length (x .rest .orderings) + 1
-  count-more x = rw (one-more x) (omega arith)
+  count-more x = rw (x .same) (omega arith)
 
-  passing : end ≤ length b → (x : More m place (part place end b) (w .entry)) → Passing m b dones place end op at next from whole (x .first)
-  unfolding allMet
-  passing l x =
-      let s : w .entry .orderings ≡ x .first ∷ x .rest .orderings = one-more x in
-      let d : (runs : List TaskRun) → donesOf runs ≡ dones → getD dones (x .first .task) 0 ≡ doneOf runs (x .first .task) = λ runs e. rw (← e) (dones-at runs (x .first .task) (omega (arith, x .below, w .few))) in
+  passing : (x : More m place (part place end b) (w .entry)) → Passing m b dones from end place at (x .first)
+  passing x =
+      let i : x .first .task < 16 = omega (arith, x .below, w .few) in
+      let q : groupAt m b place end ≡ read (record { orderings = x .first ∷ x .rest .orderings; op = x .rest .op }) = w .reads ∙ ap read (x .same) in
+      let y : groupAt m b (place + 8) end ≡ read (x .rest) = entry-ended m (stop misplaced place) _ (place + 8) _ (x .rest) (rw (part-drop 8 place end b) at (x .reads)) in
       record {
-        room = omega (arith, x .within, part-length place end b l);
-        below = x .below;
+        room = omega (arith, x .within, part-length place end b (w .within), w .within);
+        below = i;
         met = λ h. record {
           few = w .few;
-          ended = stop misplaced place;
+          within = w .within;
           entry = x .rest;
+          reads = y;
           stands = omega (arith, w .stands, count-more x);
-          reads = rw (part-drop 8 place end b) at (x .reads);
-          same = λ runs e. rw (s, le-leb (x .first .number) (doneOf runs (x .first .task)) (rw (d runs e) at h)) at (w .same runs e);
-          held = λ other k. w .held other (rw (s, k) (and-false (leb (x .first .number) (doneOf other (x .first .task)))));
+          same = λ runs d. rw y (judged-met runs place (x .first) (x .rest) (omega (arith, h, d (x .first .task) i))) ∙ (rw q at (w .same runs d));
         };
-        unmet = λ h. record {
-          same = λ runs e. rw (s, lt-leb (x .first .number) (doneOf runs (x .first .task)) (rw (d runs e) at h)) at (w .same runs e);
-          held = λ p e. rw (← the-position e) (record {
-            below = x .below;
-            stays = λ other k. w .held other (rw (s, lt-leb (x .first .number) (doneOf other (x .first .task)) k));
-          });
-        };
+        unmet = λ h runs e.
+            sym (judged-unmet runs place (x .first) (x .rest) (rw (done-at dones runs e (x .first .task) i) at h))
+            ∙ (rw q at (w .same runs (done-all dones runs e)));
       }
-    where
-      the-position : {a c : Position} → LookHeld a ≡ LookHeld c → a ≡ c
-      the-position g = cc
 
   -- the access is further on: an ordering stands here
-  pub ahead-turn : end ≤ length b → place < at → Passing m b dones place end op at next from whole (positionAt b place)
-  ahead-turn l h = elim ahead-case [
+  pub ahead-turn : place < at → Passing m b dones from end place at (positionAt b place)
+  ahead-turn h = elim ahead-case [
     | last x ↦ absurd (omega (arith, w .stands, ap length (x .none)))
     | more x ↦
-        let e : x .first ≡ positionAt b place = ordering-at inBody b place end (x .first) (x .here) (omega (arith, x .within, part-length place end b l)) in
-        rw (← e) (passing l x)
+        let e : x .first ≡ positionAt b place = ordering-at inBody b place end (x .first) (x .here) (omega (arith, x .within, part-length place end b (w .within))) in
+        rw (← e) (passing x)
   ]
 
   -- all orderings are met
-  pub ahead-access : at ≤ place → Looks m dones from whole (LookOpen op next)
-  unfolding allMet
-  ahead-access h = elim ahead-case [
-    | last x ↦ record {
-      same = λ runs e. rw (x .none) at (w .same runs e);
-      held = λ p k. absurd (let z : _≡_ {A = ℕ} 0 1 = cc in omega arith);
-    }
+  open-read : (runs : List TaskRun) (e : Entry) → e .orderings ≡ [] → isOpen (judged runs place (read e)) ≡ true
+  unfolding judged allMet
+  open-read runs e h = rw h
+
+  ahead-open : at ≤ place → (runs : List TaskRun) → donesOf runs ≡ dones → isOpen (judged runs from (groupAt m b from end)) ≡ true
+  ahead-open h runs e = elim ahead-case [
+    | last x ↦ rw (← w .same runs (done-all dones runs e), w .reads) (open-read runs (w .entry) (x .none))
     | more x ↦ absurd (omega (arith, w .stands, count-more x))
   ]
+
+  -- the rest, looked at by itself
+  pub ahead-rest : (n : Next) → Looks dones place (groupAt m b place end) n → Looks dones from (groupAt m b from end) n
+  ahead-rest n k = λ runs e. k runs e ∙ w .same runs (done-all dones runs e)
+
+-- what is found where a group is read
+module _ (m : Limits) (b dones : List ℕ) (from end : ℕ) (f : Found) (e : f ≡ found from (groupAt m b from end)) where
+  pub next-refused : (c : Checked) → f ≡ FoundRefused c → Looks dones from (groupAt m b from end) (Refused c)
+  unfolding judged
+  next-refused c q = λ runs h. rw (found-refused from (groupAt m b from end) c (sym e ∙ q))
+
+  module _ (o : Op) (a n : ℕ) (q : f ≡ FoundAccess o a n) where
+    pub ahead-start : m .tasks ≤ 16 → end ≤ length b → Ahead m b dones from end from a
+    ahead-start h l =
+        let w = found-entry from (groupAt m b from end) o a n (sym e ∙ q) in
+        record { few = h; within = l; entry = w .entry; reads = w .reads; stands = w .place; same = λ runs d. refl }
+
+    pub next-open : (place : ℕ) → Ahead m b dones from end place a → a ≤ place → Looks dones from (groupAt m b from end) (Open o n)
+    next-open place w h = λ runs d. found-open runs from (groupAt m b from end) o a n (sym e ∙ q) (ahead-open m b dones from end place a w h runs d)

@@ -28,8 +28,8 @@ pub(crate) fn finish(run: Run, bytes: &[u8], memory: &mut [u32]) -> Played
     let mut at = run;
     let mut steps: usize = 0;
     let mut dones = dones_of(run);
-    let mut sources = [0usize; 16];
-    let mut numbers = [0usize; 16];
+    let mut scans = [0usize; 16];
+    let mut ats = [0usize; 16];
     let mut t: usize = 0;
     while t < at.tasks {
         let x = at.runs[t];
@@ -38,7 +38,7 @@ pub(crate) fn finish(run: Run, bytes: &[u8], memory: &mut [u32]) -> Played
             objects: at.objects,
             own: t,
         };
-        let n = visit(x, bytes, limits, &dones, &mut sources, &mut numbers);
+        let n = visit(x, bytes, limits, &dones, &mut scans, &mut ats);
         if let Next::Open { op, next } = n {
             perform(op, memory);
             let y = advanced(x, next);

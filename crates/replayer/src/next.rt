@@ -2,17 +2,13 @@
 ghost use mathlib.Core.Path.{_≡_};
 ghost use Prim.Native.Nat.{_≤_, _<_};
 ghost use lib.ListN.{length};
-ghost use Rattle.codec.specs.Number.{inBody};
-ghost use Rattle.reader.specs.Part.{part};
-ghost use Rattle.reader.specs.Reading.{stop};
-ghost use Rattle.reader.specs.Entry.{entryOf};
 ghost use Rattle.replayer.specs.Run.{taskAt};
 ghost use Rattle.replayer.specs.Dones.{donesOf};
-ghost use Rattle.replayer.specs.Look.{asNext, Looks};
+ghost use Rattle.replayer.specs.Look.{groupAt, Looks};
+ghost use Rattle.replayer.specs.NextTurn.{InGroup, Scanned};
 ghost use Rattle.replayer.specs.Next.{refusalOf, nextOf};
 use crate::Run;
 use codec::Op;
-use codec::Position;
 use codec::field::get16;
 use reader::Checked;
 use reader::Limits;
@@ -26,15 +22,8 @@ pub enum Next {
     Refused(Checked),
 }
 
-// The same with the first ordering that is not met.
-pub enum Look {
-    Open { op: Op, next: usize },
-    Held(Position),
-    Refused(Checked),
-}
-
 // The reader's number and offset, 0 and 0 where an access was found.
-fn refusal(f: Found) -> Checked
+pub(crate) fn refusal(f: Found) -> Checked
     ensures { λ r. ⌜ r ≡ refusalOf f ⌝ }
 {
     match f {
@@ -50,37 +39,43 @@ fn refusal(f: Found) -> Checked
     }
 }
 
-// The group from a place up to a body's end, held to the counts done. All of it is read before an ordering is judged, so up to
-// the access's record there are orderings, of which the source and the number are all that is looked at again.
+// The place of the first ordering from a place on that is not met, or the place of the access's record. Up to that record there are
+// orderings, of which the source and the number are all that is looked at.
+pub(crate) fn first_unmet(bytes: &[u8], from: usize, at: usize, dones: &[usize; 16]) -> usize
+    requires { ⌜ InGroup (now bytes) (now dones) from at ⌝ }
+    ensures { λ r. ⌜ Scanned (now (bytes .entry)) (now (dones .entry)) from at r ⌝ }
+{
+    let mut place = from;
+    while place < at {
+        let source = get16(bytes, place + 4) as usize;
+        let number = get16(bytes, place + 6) as usize;
+        if dones[source] < number {
+            return place;
+        }
+        place += 8;
+    }
+    place
+}
+
+// The group from a place up to a body's end, held to the counts done. All of it is read before an ordering is judged.
 pub(crate) fn look_at(
     bytes: &[u8],
     from: usize,
     end: usize,
     limits: Limits,
     dones: &[usize; 16],
-) -> Look
+) -> Next
     requires { ⌜ (limits .tasks ≤ 16) × (end ≤ length (now bytes)) ⌝ }
-    ensures { λ r. ⌜ Looks limits (now (dones .entry)) from (entryOf limits (stop inBody from) from (part from end (now (bytes .entry)))) r ⌝ }
+    ensures { λ r. ⌜ Looks (now (dones .entry)) from (groupAt limits (now (bytes .entry)) from end) r ⌝ }
 {
     let f = entry_at(bytes, from, end, limits);
     let Found::Access { op, at, next } = f else {
-        return Look::Refused(refusal(f));
+        return Next::Refused(refusal(f));
     };
-    let mut place = from;
-    while place < at {
-        let source = get16(bytes, place + 4);
-        let number = get16(bytes, place + 6);
-        let s = source as usize;
-        if dones[s] < number as usize {
-            let p = Position {
-                task: source,
-                number,
-            };
-            return Look::Held(p);
-        }
-        place += 8;
+    if first_unmet(bytes, from, at, dones) < at {
+        return Next::Held;
     }
-    Look::Open { op, next }
+    Next::Open { op, next }
 }
 
 // The counts done, one for each task.
@@ -95,17 +90,6 @@ pub fn dones_of(run: Run) -> [usize; 16]
     dones
 }
 
-// Without the ordering that holds it.
-fn as_next(l: Look) -> Next
-    ensures { λ r. ⌜ r ≡ asNext l ⌝ }
-{
-    match l {
-        Look::Open { op, next } => Next::Open { op, next },
-        Look::Held(_) => Next::Held,
-        Look::Refused(c) => Next::Refused(c),
-    }
-}
-
 // The next group of a task, with T and N of the run.
 pub(crate) fn next_of(run: Run, bytes: &[u8], task: usize) -> Next
     requires { ⌜ (run .tasks ≤ 16) × (task < 16) × (taskAt (run .runs) task .end ≤ length (now bytes)) ⌝ }
@@ -118,5 +102,5 @@ pub(crate) fn next_of(run: Run, bytes: &[u8], task: usize) -> Next
         own: task,
     };
     let dones = dones_of(run);
-    as_next(look_at(bytes, x.place, x.end, limits, &dones))
+    look_at(bytes, x.place, x.end, limits, &dones)
 }

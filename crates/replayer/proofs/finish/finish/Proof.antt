@@ -11,21 +11,21 @@ use Rattle.replayer.specs.FinishLaws.{Playing, Turn, finish-end}
 use Rattle.replayer.specs.ReadyOf.{isReady}
 use Rattle.replayer.specs.Run.{movedOf}
 use Rattle.replayer.specs.Sound.{Sound, sound-facts}
-use Rattle.replayer.specs.Visit.{Noted, Visited, none-more, noted-none}
+use Rattle.replayer.specs.Visit.{Noted, Visited, none-more, noted-none, own-note}
 use Rattle.replayer.specs.VisitLaws.{Stepping, none-next, turn-of}
 use Rattle.replayer.proofs.Else.{closed-next}
 use Rattle.replayer.proofs.finish.finish.Statement.{statement}
 use Rattle.replayer.proofs.finish.finish.Tie as tie
 
 abbrev Inv-loop : tie.InvT-loop
-Inv-loop bytes memory₀ at₀ steps₀ dones₀ sources₀ numbers₀ t₀ memory at steps dones sources numbers t =
+Inv-loop bytes memory₀ at₀ steps₀ dones₀ scans₀ ats₀ t₀ memory at steps dones scans ats t =
     Playing bytes (record { run = at; memory = memory; steps = steps }) × (steps + leftOver at ≡ leftOver at₀) × (length memory ≡ length memory₀)
     × (finishOf bytes (record { run = at; memory = memory; steps = steps }) ≡ finishOf bytes (record { run = at₀; memory = memory₀; steps = 0 }))
-    × (donesOf (at .runs) ≡ dones) × Noted at bytes sources numbers × (t ≤ at .tasks) × ((s : ℕ) → s < t → isReady at bytes s ≡ false)
+    × (donesOf (at .runs) ≡ dones) × Noted at bytes scans ats × (t ≤ at .tasks) × ((s : ℕ) → s < t → isReady at bytes s ≡ false)
 
 -- a step takes an access away, and a visit that finds none a task
 abbrev μ-loop : tie.MeasureT-loop
-μ-loop bytes memory₀ at₀ steps₀ dones₀ sources₀ numbers₀ t₀ memory at steps dones sources numbers t = 17 * leftOver at + (at .tasks - t)
+μ-loop bytes memory₀ at₀ steps₀ dones₀ scans₀ ats₀ t₀ memory at steps dones scans ats t = 17 * leftOver at + (at .tasks - t)
 
 -- the play at the loop's head
 abbrev here : tie.At-loop Inv-loop μ-loop → Play
@@ -66,7 +66,11 @@ element-copy-out-x : tie.Need-element-copy-out-x Inv-loop μ-loop
 element-copy-out-x c = omega (arith, sound (c .before) .few-tasks, c .loop-test .taken)
 
 visit-requires : tie.Need-visit-requires Inv-loop μ-loop
-visit-requires c κs = let w = sound (c .before .before .before .before .before) in (w .few-tasks, omega (arith, w .few-tasks, c .before .before .before .before .loop-test .taken), w .task (c .before .before .before .before .before .loop .t) (c .before .before .before .before .loop-test .taken) .end, c .before .before .before .before .before .loop .inv .5 .few)
+visit-requires c κs =
+    let w = sound (c .before .before .before .before .before) in
+    let l = c .before .before .before .before .before .loop in
+    let h = c .before .before .before .before .loop-test .taken in
+    ((w .few-tasks, omega (arith, w .few-tasks, h), w .task (l .t) h .end), own-note (l .at) _ (l .t) _ _ _ _ _ (record { task = refl; limits = refl; counts = l .inv .4 }) (l .inv .5))
 
 enum-known-n : tie.Need-enum-known-n Inv-loop μ-loop
 enum-known-n c = search needs

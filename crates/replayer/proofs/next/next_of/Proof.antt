@@ -1,4 +1,4 @@
-use mathlib.Core.Path.{refl, sym, _∙_}
+use mathlib.Core.Path.{refl, sym}
 use denote.Ref.{now}
 use Rattle.replayer.specs.Look.{look-next}
 use borrow.Author.Needs.{needs}
@@ -17,14 +17,10 @@ dones-of-requires c κs = search needs
 look-at-requires : tie.Need-look-at-requires
 look-at-requires c κs = search needs
 
-as-next-requires : tie.Need-as-next-requires
-as-next-requires c κs = search needs
-
 returns : tie.Need-returns
-returns c = let a = c .before .before .before .before .before .before .args in
-    c .as-next .ensures ∙ look-next (a .t1) (now (a .bytes)) (a .task) _ _ _ (record { task = refl; limits = refl; counts = sym (c .before .before .before .dones-of .ensures) }) _ (c .before .look-at .ensures)
+returns c = let a = c .before .before .before .before .before .args in
+    look-next (a .t1) (now (a .bytes)) (a .task) _ _ _ (record { task = refl; limits = refl; counts = sym (c .before .before .dones-of .ensures) }) _ (c .look-at .ensures)
 
 pub next-of-spec : {M : Type 1} → statement M
 next-of-spec =
-    tie.close
-    (tie.spec mul-x element-copy-out-x dones-of-requires look-at-requires as-next-requires returns)
+    tie.close (tie.spec mul-x element-copy-out-x dones-of-requires look-at-requires returns)

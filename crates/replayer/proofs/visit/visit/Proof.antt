@@ -1,95 +1,127 @@
-use native.Mathlib.Omega.{arith}
 use denote.Ref.{now}
-use Rattle.replayer.specs.Visit.{visit-none, visit-waits, visit-looks, visit-notes}
+use lib.ListN.{getD}
+use Rattle.replayer.specs.Next.{refusalOf}
+use Rattle.replayer.specs.NextTurn.{Ahead, Reached, next-refused, ahead-start, ahead-rest, next-open}
+use Rattle.replayer.specs.Visit.{visit-none, visit-looks, noted-set, noted-scan}
+use Rattle.replayer.proofs.Else.{not-found}
 use borrow.Author.Needs.{needs}
 use Rattle.replayer.proofs.visit.visit.Statement.{statement}
 use Rattle.replayer.proofs.visit.visit.Tie as tie
 
+-- how far the entry is judged that a note is of, and one that is read
+resumed : (c : tie.After-first-unmet) →
+    let a = c .before .before .before .before .before .before .before .before .args in
+    Reached (a .limits) (now (a .bytes)) (now (a .dones)) (a .x .place) (a .x .end) (c .first-unmet .result) (getD (now (a .ats)) (a .limits .own) 0)
+resumed c = c .first-unmet .ensures _ _ _ (c .before .before .before .before .before .before .before .before .pre .1 (c .before .before .if2 .taken))
+
+ahead : (c : tie.After-known-told) →
+    let a = c .before .before .before .before .before .before .before .before .before .before .args in
+    Ahead (a .limits) (now (a .bytes)) (now (a .dones)) (a .x .place) (a .x .end) (a .x .place) (c .before .f .given .0 .1 .0)
+ahead c = ahead-start _ _ _ _ _ _ (c .before .before .before .entry-at .ensures) _ _ _ (c .before .f .given .1) (c .before .before .before .before .before .before .before .before .before .before .pre .0 .0) (c .before .before .before .before .before .before .before .before .before .before .pre .0 .2)
+
 returns : tie.Need-returns
-returns c = let a = c .before .before .before .args in λ r w n. visit-none r (now (a .bytes)) (a .limits .own) (a .x) (a .limits) (now (a .dones)) (now (a .sources)) (now (a .numbers)) w n (c .if1 .taken)
+returns c = λ r w n. visit-none _ _ _ _ _ _ _ _ w n (c .if1 .taken)
 
-mul-source : tie.Need-mul-source
-mul-source c = search needs
+mul-noted : tie.Need-mul-noted
+mul-noted c = search needs
 
-element-copy-out-source : tie.Need-element-copy-out-source
-element-copy-out-source c = search needs
+element-copy-out-noted : tie.Need-element-copy-out-noted
+element-copy-out-noted c = search needs
 
-mul-if2 : tie.Need-mul-if2
-mul-if2 c = omega (arith, c .before .before .before .before .pre .3 (c .before .before .before .before .args .limits .own))
+mul-first-unmet : tie.Need-mul-first-unmet
+mul-first-unmet c = search needs
 
-element-copy-out-if2 : tie.Need-element-copy-out-if2
-element-copy-out-if2 c = omega (arith, c .before .before .before .before .pre .3 (c .before .before .before .before .args .limits .own))
+element-copy-out-first-unmet : tie.Need-element-copy-out-first-unmet
+element-copy-out-first-unmet c = search needs
 
-mul-if2-2 : tie.Need-mul-if2-2
-mul-if2-2 c = search needs
+first-unmet-requires : tie.Need-first-unmet-requires
+first-unmet-requires c κs = record { limits = _; from = _; end = _; ahead = c .before .before .before .before .before .before .before .pre .1 (c .before .if2 .taken) }
 
-element-copy-out-if2-2 : tie.Need-element-copy-out-if2-2
-element-copy-out-if2-2 c = search needs
+mul-scans : tie.Need-mul-scans
+mul-scans c = search needs
+
+element-write-scans : tie.Need-element-write-scans
+element-write-scans c = search needs
 
 returns-2 : tie.Need-returns-2
-returns-2 c = let a = c .before .before .before .before .before .before .before .args in λ r w n. visit-waits r (now (a .bytes)) (a .limits .own) (a .x) (a .limits) (now (a .dones)) (now (a .sources)) (now (a .numbers)) w n (c .if2 .taken)
+returns-2 c =
+    let j = resumed (c .before) in
+    λ r w n. visit-looks _ _ _ _ _ _ _ _ w n (c .before .before .before .before .before .before .if1 .left) _ (j .held (c .if3 .taken)) _ _ (noted-scan _ _ _ _ _ _ _ _ w n (c .before .before .before .before .before .before .before .before .before .pre .0 .1) _ (j .ahead))
 
 look-at-requires : tie.Need-look-at-requires
 look-at-requires c κs = search needs
 
-enum-known-l : tie.Need-enum-known-l
-enum-known-l c = search needs
-
-enum-known-l-2 : tie.Need-enum-known-l-2
-enum-known-l-2 c = search needs
-
-cast-sources : tie.Need-cast-sources
-cast-sources c = search needs
-
-mul-sources : tie.Need-mul-sources
-mul-sources c = search needs
-
-element-write-sources : tie.Need-element-write-sources
-element-write-sources c = search needs
-
-cast-numbers : tie.Need-cast-numbers
-cast-numbers c = search needs
-
-mul-numbers : tie.Need-mul-numbers
-mul-numbers c = search needs
-
-element-write-numbers : tie.Need-element-write-numbers
-element-write-numbers c = search needs
-
-enum-known-l-3 : tie.Need-enum-known-l-3
-enum-known-l-3 c = search needs
-
 returns-3 : tie.Need-returns-3
-returns-3 c = let a = c .before .before .before .before .before .before .before .before .before .before .before .args in λ r w n. rw (c .before .l .given .1) at (visit-looks r (now (a .bytes)) (a .limits .own) (a .x) (a .limits) (now (a .dones)) (now (a .sources)) (now (a .numbers)) w n (c .before .before .before .before .before .before .before .before .if1 .left) _ (c .before .before .before .look-at .ensures))
+returns-3 c =
+    let k = resumed (c .before .before) .ahead in
+    λ r w n. visit-looks _ _ _ _ _ _ _ _ w n (c .before .before .before .before .before .before .before .if1 .left) _ (ahead-rest _ _ _ _ _ _ _ k _ (c .look-at .ensures)) _ _ (noted-scan _ _ _ _ _ _ _ _ w n (c .before .before .before .before .before .before .before .before .before .before .pre .0 .1) _ k)
+
+entry-at-requires : tie.Need-entry-at-requires
+entry-at-requires c κs = search needs
+
+enum-known-f : tie.Need-enum-known-f
+enum-known-f c = search needs
+
+enum-told : tie.Need-enum-told
+enum-told c = search needs
+
+refusal-requires : tie.Need-refusal-requires
+refusal-requires c κs = search needs
 
 returns-4 : tie.Need-returns-4
-returns-4 c = let a = c .before .before .before .before .before .before .before .before .before .before .before .before .before .args in λ r w n. visit-notes r (now (a .bytes)) (a .limits .own) (a .x) (a .limits) (now (a .dones)) (now (a .sources)) (now (a .numbers)) w n (c .before .before .before .before .before .before .before .before .before .before .if1 .left) _ (c .before .before .before .before .before .look-at .ensures) _ (c .before .before .before .l2 .given .1) (rw (w .limits) at (c .before .before .before .before .before .before .before .before .before .before .before .before .before .pre .0)) (c .before .before .before .before .before .before .before .before .before .before .before .before .before .pre .1)
+returns-4 c =
+    let f = c .before .before .before .entry-at in
+    λ r w n. visit-looks _ _ _ _ _ _ _ _ w n (c .before .before .before .before .before .before .before .if1 .left) _ (rw (c .refusal .ensures) (next-refused _ _ _ _ _ (f .result) (f .ensures) (refusalOf (f .result)) (not-found (f .result) (c .before .before .match .keys2)))) _ _ n
+
+first-unmet-requires-2 : tie.Need-first-unmet-requires-2
+first-unmet-requires-2 c κs = record { limits = _; from = _; end = _; ahead = ahead c }
+
+mul-scans-2 : tie.Need-mul-scans-2
+mul-scans-2 c = search needs
+
+element-write-scans-2 : tie.Need-element-write-scans-2
+element-write-scans-2 c = search needs
+
+mul-ats : tie.Need-mul-ats
+mul-ats c = search needs
+
+element-write-ats : tie.Need-element-write-ats
+element-write-ats c = search needs
 
 returns-5 : tie.Need-returns-5
-returns-5 c = let a = c .before .before .before .before .before .before .before .before .before .before .before .args in λ r w n. rw (c .before .l3 .given .1) at (visit-looks r (now (a .bytes)) (a .limits .own) (a .x) (a .limits) (now (a .dones)) (now (a .sources)) (now (a .numbers)) w n (c .before .before .before .before .before .before .before .before .if1 .left) _ (c .before .before .before .look-at .ensures))
+returns-5 c =
+    let j = c .before .first-unmet2 .ensures _ _ _ (ahead (c .before .before)) in
+    λ r w n. visit-looks _ _ _ _ _ _ _ _ w n (c .before .before .before .before .before .before .before .before .before .if1 .left) _ (j .held (c .if4 .taken)) _ _ (noted-set _ _ _ _ _ _ _ _ w n (c .before .before .before .before .before .before .before .before .before .before .before .before .pre .0 .1) _ _ (j .ahead))
+
+returns-6 : tie.Need-returns-6
+returns-6 c =
+    let j = c .before .first-unmet2 .ensures _ _ _ (ahead (c .before .before)) in
+    λ r w n. visit-looks _ _ _ _ _ _ _ _ w n (c .before .before .before .before .before .before .before .before .before .if1 .left) _ (next-open _ _ _ _ _ _ (c .before .before .before .before .before .entry-at .ensures) _ _ _ (c .before .before .before .f .given .1) _ (j .ahead) (c .if4 .left)) _ _ n
 
 pub visit-spec : {M : Type 1} → statement M
 visit-spec =
     tie.close
     (tie.spec
     returns
-    mul-source
-    element-copy-out-source
-    mul-if2
-    element-copy-out-if2
-    mul-if2-2
-    element-copy-out-if2-2
+    mul-noted
+    element-copy-out-noted
+    mul-first-unmet
+    element-copy-out-first-unmet
+    first-unmet-requires
+    mul-scans
+    element-write-scans
     returns-2
     look-at-requires
-    enum-known-l
-    enum-known-l-2
-    cast-sources
-    mul-sources
-    element-write-sources
-    cast-numbers
-    mul-numbers
-    element-write-numbers
-    enum-known-l-3
     returns-3
+    entry-at-requires
+    enum-known-f
+    enum-told
+    refusal-requires
     returns-4
-    returns-5)
+    first-unmet-requires-2
+    mul-scans-2
+    element-write-scans-2
+    mul-ats
+    element-write-ats
+    returns-5
+    returns-6)

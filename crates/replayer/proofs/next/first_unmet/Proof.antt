@@ -1,0 +1,93 @@
+use native.Mathlib.Omega.{arith}
+use Prim.Native.Nat.{ℕ, _-_}
+use denote.Ref.{now}
+use borrow.Author.Needs.{needs}
+use Rattle.reader.specs.declared.Limits.{Limits}
+use Rattle.replayer.specs.NextTurn.{Ahead, Passing, ahead-turn}
+use Rattle.replayer.specs.OrderingAt.{positionAt}
+use Rattle.replayer.proofs.next.first_unmet.Statement.{statement}
+use Rattle.replayer.proofs.next.first_unmet.Tie as tie
+
+abbrev Inv-loop : tie.InvT-loop
+Inv-loop bytes from at dones place₀ place = (m : Limits) (start end : ℕ) → Ahead m bytes dones start end from at → Ahead m bytes dones start end place at
+
+abbrev μ-loop : tie.MeasureT-loop
+μ-loop bytes from at dones place₀ place = at - place
+
+-- the ordering that stands there, of any group and of the one that is known
+turn : (c : tie.In-loop Inv-loop μ-loop) →
+    let a = c .before .before .before .args in
+    (m : Limits) (start end : ℕ) → Ahead m (now (a .bytes)) (now (a .dones)) start end (a .from) (a .at)
+    → Passing m (now (a .bytes)) (now (a .dones)) start end (c .before .loop .place) (a .at) (positionAt (now (a .bytes)) (c .before .loop .place))
+turn c m start end w = ahead-turn _ _ _ _ _ _ _ (c .before .loop .inv m start end w) (c .loop-test .taken)
+
+passing : (c : tie.In-loop Inv-loop μ-loop) →
+    let s = c .before .before .before in
+    Passing (s .pre .limits) (now (s .args .bytes)) (now (s .args .dones)) (s .pre .from) (s .pre .end) (c .before .loop .place) (s .args .at) (positionAt (now (s .args .bytes)) (c .before .loop .place))
+passing c = let p = c .before .before .before .pre in turn c (p .limits) (p .from) (p .end) (p .ahead)
+
+loop-holds : tie.Need-loop-holds Inv-loop μ-loop
+loop-holds c = λ m start end w. w
+
+add-get16 : tie.Need-add-get16 Inv-loop μ-loop
+add-get16 c = omega (arith, passing c .room)
+
+get16-requires : tie.Need-get16-requires Inv-loop μ-loop
+get16-requires c κs = omega (arith, passing c .room)
+
+cast-source : tie.Need-cast-source Inv-loop μ-loop
+cast-source c = search needs
+
+add-get16-2 : tie.Need-add-get16-2 Inv-loop μ-loop
+add-get16-2 c = omega (arith, passing (c .before) .room)
+
+get16-requires-2 : tie.Need-get16-requires-2 Inv-loop μ-loop
+get16-requires-2 c κs = omega (arith, passing (c .before) .room)
+
+cast-number : tie.Need-cast-number Inv-loop μ-loop
+cast-number c = search needs
+
+mul-if1 : tie.Need-mul-if1 Inv-loop μ-loop
+mul-if1 c = omega (arith, passing (c .before .before) .below, c .before .get16 .ensures)
+
+element-copy-out-if1 : tie.Need-element-copy-out-if1 Inv-loop μ-loop
+element-copy-out-if1 c = omega (arith, passing (c .before .before) .below, c .before .get16 .ensures)
+
+returns : tie.Need-returns Inv-loop μ-loop
+returns c = λ m start end w. record {
+  ahead = c .before .before .before .before .before .loop .inv m start end w;
+  held = λ h. turn (c .before .before .before .before) m start end w .unmet (rw (c .before .before .before .get16 .ensures, c .before .before .get162 .ensures) at (c .if1 .taken));
+}
+
+add-place : tie.Need-add-place Inv-loop μ-loop
+add-place c = omega (arith, passing (c .before .before .before .before) .room)
+
+loop-less : tie.Need-loop-less Inv-loop μ-loop
+loop-less c = omega (arith, c .before .before .before .before .loop-test .taken)
+
+loop-again : tie.Need-loop-again Inv-loop μ-loop
+loop-again c = λ m start end w. turn (c .before .before .before .before) m start end w .met (rw (c .before .before .before .get16 .ensures, c .before .before .get162 .ensures) at (c .if1 .left))
+
+returns-2 : tie.Need-returns-2 Inv-loop μ-loop
+returns-2 c = λ m start end w. record { ahead = c .before .loop .inv m start end w; held = λ h. absurd (omega (arith, h, c .loop-test .left)) }
+
+pub first-unmet-spec : {M : Type 1} → statement M
+first-unmet-spec =
+    tie.close
+    (tie.spec
+    Inv-loop
+    μ-loop
+    loop-holds
+    add-get16
+    get16-requires
+    cast-source
+    add-get16-2
+    get16-requires-2
+    cast-number
+    mul-if1
+    element-copy-out-if1
+    returns
+    add-place
+    loop-less
+    loop-again
+    returns-2)
