@@ -1,4 +1,4 @@
-//! The proved library as it is linked in: the functions of `crates/linked`, and a state or a run as the arrays that they take.
+//! The proved library as it is linked in: the functions of `crates/linked` and `crates/timed`, and a state or a run as the arrays that they take.
 
 use crate::peer::{recorder, replayer};
 use crate::table::Script;

@@ -1,4 +1,4 @@
-//! The other side of the calls that do many at once: what `crates/linked/src/timed.rt` does, by `peer.rs`.
+//! The other side of the calls that do many at once: what `crates/timed/src/lib.rt` and `crates/linked/src/pack.rt` do, by `peer.rs`.
 
 use crate::peer::{recorder, replayer};
 use crate::table::Script;

@@ -3,4 +3,4 @@
 
 mod calls;
 mod layout;
-mod timed;
+mod pack;

@@ -3,8 +3,8 @@ use Prim.Native.Nat.{_≤_, _<_, _-_}
 use lib.ListN.{length}
 use native.Mathlib.Omega.{arith}
 use borrow.Author.Needs.{needs}
-use Rattle.linked.proofs.timed.wk_replay.Statement.{statement}
-use Rattle.linked.proofs.timed.wk_replay.Tie as tie
+use Rattle.timed.proofs.wk_replay.Statement.{statement}
+use Rattle.timed.proofs.wk_replay.Tie as tie
 
 abbrev Inv-loop : tie.InvT-loop
 Inv-loop bytes memory₀ run₀ digest₀ counter₀ end memory run digest counter =

@@ -3,8 +3,8 @@ use Prim.Native.Nat.{_≤_, _<_, _*_, _-_}
 use lib.ListN.{length}
 use native.Mathlib.Omega.{arith}
 use borrow.Author.Needs.{needs}
-use Rattle.linked.proofs.timed.wk_script.Statement.{statement}
-use Rattle.linked.proofs.timed.wk_script.Tie as tie
+use Rattle.timed.proofs.wk_script.Statement.{statement}
+use Rattle.timed.proofs.wk_script.Tie as tie
 
 abbrev Inv-loop : tie.InvT-loop
 Inv-loop tasks objects owners starts script memory₀ out₀ state₀ digest₀ i₀ i-end memory out state digest i =

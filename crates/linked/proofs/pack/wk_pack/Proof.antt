@@ -2,8 +2,8 @@ use mathlib.Core.Path.{_≡_}
 use Prim.Native.Nat.{_≤_, _-_}
 use lib.ListN.{length}
 use borrow.Author.Needs.{needs}
-use Rattle.linked.proofs.timed.wk_pack.Statement.{statement}
-use Rattle.linked.proofs.timed.wk_pack.Tie as tie
+use Rattle.linked.proofs.pack.wk_pack.Statement.{statement}
+use Rattle.linked.proofs.pack.wk_pack.Tie as tie
 
 abbrev Inv-loop : tie.InvT-loop
 Inv-loop halves words logs ends out₀ state from₀ at₀ t₀ t-end out from at t =

@@ -1,8 +1,8 @@
-// Many calls in one, for a clock: each answers a digest of all that its calls answered, so that none can be left out.
-use crate::layout::state_of;
+// Many calls in one, for the bench's clock: each answers a digest of all that its calls answered, so that none can be left out. They are
+// a library of their own, with one place that calls an access and one that calls a step, as a program has: where there are two, the
+// compiler does not put the call's code in its place, and two more copies of the state are made.
 use replayer::lowest_ready;
 use replayer::ready;
-use std::num::wrapping_add_usize;
 
 // The digest turned by 7 bits, and x into it.
 fn mixed(digest: u64, x: u64) -> u64 {
@@ -61,36 +61,6 @@ pub extern "C" fn wk_script(
         state = a.state;
     }
     digest
-}
-
-// The sections of the tasks from 0 on, one behind the other; `ends` says where in `logs` each task's log ends.
-#[no_mangle]
-pub extern "C" fn wk_pack(
-    halves: &[u16; 548],
-    words: &[u32; 273],
-    logs: &[u8],
-    ends: &[usize],
-    out: &mut [u8],
-) -> usize {
-    let state = state_of(halves, words);
-    let mut from = 0;
-    let mut at = 0;
-    for t in 0..ends.len() {
-        let to = ends[t];
-        if to < from {
-            return at;
-        }
-        if logs.len() < to {
-            return at;
-        }
-        if out.len() < at {
-            return at;
-        }
-        let s = recorder::section(state, t, &logs[from..to], &mut out[at..]);
-        at = wrapping_add_usize(at, s.written);
-        from = to;
-    }
-    at
 }
 
 // A recording opened and stepped, the lowest ready task first, until none is ready. A step uses up a record, so the bytes are
