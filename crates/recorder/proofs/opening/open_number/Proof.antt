@@ -11,12 +11,6 @@ use Rattle.recorder.specs.OpenOf.{entriesOk, openNumber}
 use borrow.Author.Needs.{needs}
 use Rattle.recorder.proofs.opening.open_number.Statement.{statement}
 use Rattle.recorder.proofs.opening.open_number.Tie as tie
-use Rattle.recorder.proofs.opening.open_number.Reads as reads
-use Rattle.recorder.proofs.opening.open_number.Lts as lts
-use Rattle.codec.proofs.kind.length_of.Reads as length-of-reads
-use Rattle.recorder.proofs.opening.entries_ok.Reads as entries-ok-reads
-use Rattle.recorder.proofs.opening.owners_below.Reads as owners-below-reads
-use Rattle.recorder.proofs.opening.within.Reads as within-reads
 
 -- the tests that were passed, one behind another
 tasks-fit : (c : tie.Else1) → isWithin 1 16 (c .before .before .before .args .tasks) ≡ true
