@@ -5,7 +5,7 @@ use Prim.Native.Nat.{ℕ, _<_}
 use lib.ListN.{length, getD}
 use Rattle.reader.specs.Parse.{Parsed, parse}
 use Rattle.reader.specs.Reading.{read}
-use Rattle.history.specs.Entry.{Act, write, Entry}
+use Rattle.history.specs.Entry.{Act, Entry}
 use Rattle.history.specs.History.{History, At}
 use Rattle.history.specs.Sound.{Sound}
 use Rattle.fidelity.specs.Filed.{filedOf}

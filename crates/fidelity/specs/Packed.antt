@@ -8,7 +8,7 @@ use borrow.Author.Tests.{lt-leb, le-ltb, eqb-true, eqb-false}
 use lib.Dec.{eqb}
 use lib.ListN.{length, getD, take, length-append}
 use Rattle.codec.specs.Decide.{passes, fails, split}
-use Rattle.codec.specs.Encode.{section, section-length}
+use Rattle.codec.specs.Encode.{section-length}
 use Rattle.codec.specs.Kind.{sectionKind, lengthOf}
 use Rattle.reader.specs.Body.{walkOf}
 use Rattle.reader.specs.Bytes.{bodyBytes, sectionsBytes}
@@ -46,14 +46,14 @@ bodies-at h t (suc k) zero l = let e : t + 0 ≡ t = omega arith in rw e
 bodies-at h t (suc k) (suc i) l = let e : t + suc i ≡ suc t + i = omega arith in rw e (bodies-at h (suc t) k i (omega arith))
 
 -- what an accepted section wrote
-section-wrote : (s : State) (t : ℕ) (log out : List ℕ) → sectionOf s t log out .answer .number ≡ 0
-    → take (sectionOf s t log out .answer .written) (sectionOf s t log out .out) ≡ sectionBytes s t log
+pub section-wrote : (s : State) (t : ℕ) (log out : List ℕ) → sectionOf s t log out .answer .number ≡ 0
+    → (sectionOf s t log out .answer .written ≡ 12 + length log) × (take (sectionOf s t log out .answer .written) (sectionOf s t log out .out) ≡ sectionBytes s t log)
 unfolding sectionOf
 section-wrote s t log out z = elim (split (eqb (sectionChecked s t log (length out) .number) 0)) [
   | passes p ↦
       let f = section-facts s t log (length out) (eqb-true _ _ p) in
-      rw p (store-front out (sectionBytes s t log) (lengthOf sectionKind + length log)
-      (length-append (section t (doneOf s t) (length log)) log ∙ rw section-length) (f .room))
+      let e : length (sectionBytes s t log) ≡ lengthOf sectionKind + length log = rw (length-append, section-length) in
+      rw p (refl, store-front out _ _ e (f .room))
   | fails p ↦ absurd (eqb-false _ _ p (rw p at z))
 ]
 
@@ -102,4 +102,4 @@ module _ {start : ℕ → ℕ} {tasks objects : ℕ} {b : Box} {h : History} (f 
       → packed (b .state) (b .logs) outs t k ≡ sectionsBytes t (bodiesFrom h t k)
   unfolding packed sectionsBytes bodiesFrom
   packed-is outs z t zero l = refl
-  packed-is outs z t (suc k) l = rw (section-wrote (b .state) t (b .logs t) (outs t) (z t (omega arith)), f .logs t, done-is t, packed-is outs z (suc t) k (omega arith))
+  packed-is outs z t (suc k) l = rw (section-wrote (b .state) t (b .logs t) (outs t) (z t (omega arith)) .1, f .logs t, done-is t, packed-is outs z (suc t) k (omega arith))

@@ -14,13 +14,13 @@ use Rattle.history.specs.Entry.{Entry}
 use Rattle.history.specs.History.{History}
 use Rattle.history.specs.Access.{Access, access-of}
 use Rattle.history.specs.Memory.{reference}
-use Rattle.history.specs.Replay.{State, Reply, fresh, shown, run, answer, tally, recordedOrder}
+use Rattle.history.specs.Replay.{State, Reply, fresh, shown, tally, recordedOrder}
 use Rattle.history.specs.Ready.{Ready}
 use Rattle.history.specs.Faithful.{after, Faithful, faithful}
 use Rattle.replayer.specs.OpenOf.{openOf}
 use Rattle.replayer.specs.ReadyLaws.{ReadySet, ready-word}
 use Rattle.replayer.specs.ReadyOf.{isReady as isReadyBy, readyOf}
-use Rattle.replayer.specs.Word.{bit, wordOf, hasBit}
+use Rattle.replayer.specs.Word.{wordOf, hasBit}
 use Rattle.fidelity.specs.Bench.{Bench, benchOf, answerOf, steppedAll, takes as takesBy, tally as tallyBy, tallyOf as tallyOfBy, AllTaken as AllTakenBy}
 use Rattle.fidelity.specs.Matches.{Matches}
 use Rattle.fidelity.specs.Sim.{Sim, sim-ready}

@@ -5,7 +5,7 @@ use Prim.Native.Nat.{ℕ}
 use lib.ListN.{length}
 use Rattle.reader.specs.Parse.{Parsed}
 use Rattle.reader.specs.Reading.{read}
-use Rattle.history.specs.History.{History, count}
+use Rattle.history.specs.History.{History}
 use Rattle.history.specs.Replay.{fresh}
 use Rattle.replayer.specs.Left.{left-opened}
 use Rattle.replayer.specs.OpenLaws.{AtStart, opened-stands, Opens, open-accepts, open-accepted}

@@ -18,7 +18,7 @@ use Rattle.reader.specs.Recording.{Entry as FileEntry}
 use Rattle.history.specs.Entry.{Act, Entry}
 use Rattle.history.specs.History.{History, count, At}
 use Rattle.history.specs.Access.{Access}
-use Rattle.history.specs.Replay.{State, next, isReady, oneMore, perform, shown, step, answer, takes}
+use Rattle.history.specs.Replay.{State, isReady, oneMore, perform, shown, step, answer, takes}
 use Rattle.history.specs.Ready.{access-next}
 use Rattle.history.specs.Step.{Taken, Refused, taken, refused, step-goes}
 use Rattle.replayer.specs.declared.TaskRun.{TaskRun}

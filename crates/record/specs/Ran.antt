@@ -15,11 +15,12 @@ use Rattle.reader.specs.Bytes.{entry-length}
 use Rattle.tracker.specs.declared.State.{State}
 use Rattle.fidelity.specs.Box.{Opening, openedBy, Asked, callsOf, firstBox, lastBox}
 use Rattle.fidelity.specs.FirstBox.{follows-last}
+use Rattle.fidelity.specs.Turn.{store-front}
 use Rattle.record.specs.declared.asked.Asked.{Asked as Line·asked}
 use Rattle.record.specs.Asked.{askedBy, askedOf, isNumber}
 use Rattle.record.specs.Fields.{fieldsOf}
 use Rattle.record.specs.Lines.{Line}
-use Rattle.record.specs.Room.{access-same, stored}
+use Rattle.record.specs.Room.{access-same}
 use Rattle.record.specs.Session.{Session, most, callOf, stoppedAt, asking, judged, fed, fedAll}
 
 -- the bytes in the logs of the tasks below k
@@ -61,7 +62,7 @@ written-length s task object sort value memory out = elim (split (eqb (accessNum
   | passes p ↦
       let t = number-takes s task object sort value memory out (rw p) in
       let e = entry-length (entryOf s task object (isWrite sort) value) in
-      rw (p, stored out _ _ e (t .room), e)
+      rw (p, store-front out _ _ e (t .room), e)
 ]
 
 -- a line that is not malformed has a value that fits

@@ -8,16 +8,17 @@ use native.Mathlib.Omega.{arith}
 use borrow.Author.Tests.{ltb-true, eqb-true, eq-eqb}
 use lib.Dec.{eqb, ltb}
 use lib.ListN.{length, getD, take, drop, set, List·getD-append}
-use lib.Seq.{take-at, take-suc, take-suc-set}
+use lib.Seq.{take-suc, take-suc-set}
 use Rattle.codec.specs.Decide.{both-pass}
 use Rattle.codec.specs.Store.{store, store-split}
 use Rattle.reader.specs.Parse.{allBelow}
+use Rattle.fidelity.specs.Turn.{store-front}
 use Rattle.record.specs.Number.{none}
 use Rattle.record.specs.Rows.{isRow, sizesOf}
 
 -- a row that holds a list from its start
 pub row-take : (row xs : List ℕ) → length xs ≤ length row → take (length xs) (store row 0 xs) ≡ xs
-row-take row xs h = rw (store-split row 0 xs (omega arith)) (take-at xs (drop (0 + length xs) row) (length xs) refl)
+row-take row xs h = store-front row xs (length xs) refl h
 
 pub row-at : (row xs : List ℕ) (i : ℕ) → length xs ≤ length row → i < length xs → getD (store row 0 xs) i 0 ≡ getD xs i 0
 row-at row xs i h k = rw (store-split row 0 xs (omega arith)) (List·getD-append xs (drop (0 + length xs) row) 0 i k)

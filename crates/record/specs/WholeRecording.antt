@@ -7,26 +7,25 @@ use native.Mathlib.Numerals.{add-one}
 use native.Mathlib.Omega.{arith}
 use borrow.Author.Tests.{eq-eqb, eqb-true, eqb-false}
 use lib.Dec.{eqb}
-use lib.ListN.{length, take, replicate, length-append, length-replicate}
+use lib.ListN.{length, take, replicate, length-replicate}
 use Rattle.codec.specs.Decide.{passes, fails, split}
-use Rattle.codec.specs.Encode.{head, head-length, section-length}
-use Rattle.codec.specs.Kind.{headLength, sectionKind, lengthOf}
+use Rattle.codec.specs.Encode.{head, head-length}
+use Rattle.codec.specs.Kind.{headLength}
 use Rattle.reader.specs.Range.{AllUnder}
 use Rattle.recorder.specs.OpenOf.{openNumber, opened, openOf}
 use Rattle.recorder.specs.OpenTurn.{open-facts}
-use Rattle.recorder.specs.SectionOf.{sectionBytes, sectionChecked, sectionOf}
-use Rattle.recorder.specs.SectionTurn.{section-facts}
 use Rattle.recorder.specs.WholeRun.{Box, calledAll}
 use Rattle.recorder.specs.WholeRun.{packed as packedWhole}
-use Rattle.tracker.specs.declared.State.{State}
 use Rattle.fidelity.specs.Box.{Opening, openedBy, Asked, firstBox, lastBox, recordingOf}
 use Rattle.fidelity.specs.BoxMatches.{sections-accepted}
+use Rattle.fidelity.specs.Packed.{section-wrote}
 use Rattle.fidelity.specs.Statement.{Accepted}
 use Rattle.fidelity.specs.Theorem.{acceptance}
+use Rattle.fidelity.specs.Turn.{store-front}
 use Rattle.record.specs.Lines.{Line}
 use Rattle.record.specs.Packed.{packed}
 use Rattle.record.specs.RecordOf.{begun, finished, opening, withOpening}
-use Rattle.record.specs.Room.{stored, opening-facts}
+use Rattle.record.specs.Room.{opening-facts}
 use Rattle.record.specs.Session.{Session, most, fedAll}
 use Rattle.record.specs.Ran.{sumLogs, sum-none, Ran, ran-all}
 
@@ -40,17 +39,6 @@ pub record WholeRecording (bytes : List ℕ) : Type 0 where
   pub asked : List Asked
   pub is : bytes ≡ recordingOf opening asked (outsOf (lastBox opening asked))
   pub accepted : (memory : List ℕ) → length memory ≡ opening .objects → Accepted opening asked (outsOf (lastBox opening asked)) memory
-
-section-made : (s : State) (t : ℕ) (log out : List ℕ) → sectionOf s t log out .answer .number ≡ 0
-    → (sectionOf s t log out .answer .written ≡ 12 + length log) × (take (sectionOf s t log out .answer .written) (sectionOf s t log out .out) ≡ sectionBytes s t log)
-unfolding sectionOf
-section-made s t log out z = elim (split (eqb (sectionChecked s t log (length out) .number) 0)) [
-  | fails p ↦ absurd (eqb-false _ _ p (rw p at z))
-  | passes p ↦
-      let f = section-facts s t log (length out) (eqb-true _ _ p) in
-      let e : length (sectionBytes s t log) ≡ lengthOf sectionKind + length log = rw (length-append, section-length) in
-      rw p (refl, stored out _ _ e (f .room))
-]
 
 sum-suc : (logs : ℕ → List ℕ) (t : ℕ) → sumLogs logs (suc t) ≡ sumLogs logs t + length (logs t)
 unfolding sumLogs
@@ -79,8 +67,8 @@ module _ (o : Opening) (z : openedBy o .answer .number ≡ 0) (asked : List Aske
       let n : sumLogs (b .logs) t + length (b .logs t) ≤ sumLogs (b .logs) (o .tasks) = rw h at (sum-next (b .logs) t k) in
       let i = sections-accepted o z asked t (omega arith) (replicate (most - at) 0) (rw (length-replicate {A = ℕ} (most - at) 0) (omega (arith, n, room, e))) in
       let j = sections-accepted o z asked t (omega arith) (outsOf b t) (rw (length-replicate {A = ℕ} (12 + length (b .logs t)) 0) (omega arith)) in
-      let x = section-made (b .state) t (b .logs t) (replicate (most - at) 0) i in
-      let y = section-made (b .state) t (b .logs t) (outsOf b t) j in
+      let x = section-wrote (b .state) t (b .logs t) (replicate (most - at) 0) i in
+      let y = section-wrote (b .state) t (b .logs t) (outsOf b t) j in
       let g = packed-all (suc t) k (at + (12 + length (b .logs t))) (omega arith) (omega (arith, e, sum-suc (b .logs) t)) in
       rw (x .1, y .1, x .0, add-one t, g)
 
@@ -98,7 +86,7 @@ head-size tasks objects owners starts memory out z =
       | passes p ↦
           let f = open-facts tasks objects owners (length starts) (length memory) (length out) (eqb-true _ _ p) in
           let e : length (head tasks owners starts) ≡ headLength objects = head-length tasks owners starts (omega (arith, f .owner-each, f .start-each)) ∙ ap headLength (f .owner-each) in
-          rw (p, stored out _ _ e (f .room), e)
+          rw (p, store-front out _ _ e (f .room), e)
     ]
 
 module _ (tasks line : ℕ) (owners starts : List ℕ) (ls : List Line) (under : AllUnder 4294967296 starts) (z : opening tasks owners starts .answer .number ≡ 0) where

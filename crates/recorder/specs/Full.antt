@@ -1,17 +1,16 @@
 -- The run on the bench with 65,535 accesses (document 01, marked P): that one is taken, the next gives 8. From a state reached by a
 -- list of calls, by a law and not by computing them.
-use mathlib.Core.Path.{_≡_, refl, ap, _∙_, sym}
+use mathlib.Core.Path.{_≡_, refl, ap, _∙_}
 use mathlib.Core.Bool.{false}
-use mathlib.Core.List.{List, [], _∷_}
+use mathlib.Core.List.{[], _∷_}
 use Prim.Native.Nat.{ℕ, zero, suc, _+_, _≤_, _<_}
 use native.Mathlib.Omega.{arith}
 use borrow.Author.Tests.{lt-leb, le-leb}
-use lib.ListN.{length, replicate, length-replicate}
+use lib.ListN.{length, replicate}
 use Rattle.tracker.specs.Facts.{Sound, sound-test}
-use Rattle.tracker.specs.Kept.{Accepts, next-facts}
+use Rattle.tracker.specs.Kept.{next-facts}
 use Rattle.tracker.specs.After.{next-tasks, next-objects, next-shaped, next-done}
 use Rattle.tracker.specs.Opened.{openedState, opened-facts, opened-shaped}
-use Rattle.tracker.specs.Next.{nextOf}
 use Rattle.tracker.specs.State.{Shaped, doneOf}
 use Rattle.recorder.specs.AccessOf.{checked, accessNumber, accepted, refused, accessOf}
 use Rattle.recorder.specs.Accepted.{Takes, takes-accepted, entry-bound}

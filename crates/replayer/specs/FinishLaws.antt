@@ -3,23 +3,23 @@
 use mathlib.Core.Path.{_≡_, refl, sym, _∙_}
 use mathlib.Core.Bool.{Bool, true, false}
 use mathlib.Core.List.{List}
-use Prim.Native.Nat.{ℕ, zero, suc, _+_, _*_, _-_, _≤_, _<_}
+use Prim.Native.Nat.{ℕ, zero, suc, _+_, _≤_, _<_}
 use native.Mathlib.Nat.{add-zero}
 use native.Mathlib.Omega.{arith}
-use native.Mathlib.Decide.{ℕ-discrete, decLt}
-use lib.Dec.{eqb, ltb}
+use native.Mathlib.Decide.{ℕ-discrete}
+use lib.Dec.{ltb}
 use lib.ListN.{length}
 use borrow.Author.Tests.{ltb-true, eq-eqb, ne-eqb}
 use Rattle.codec.specs.Decide.{passes, fails, split, never}
 use Rattle.replayer.specs.declared.Run.{Run}
 use Rattle.replayer.specs.Finish.{Play, wordAt, taskNext, onward, playedOf, leftIn, leftOver, finishOf, tasksIn}
 use Rattle.replayer.specs.Moved.{Shaped, moved-own, moved-other, moved-tasks}
-use Rattle.replayer.specs.ReadyLaws.{LowestIs, ready, nowhere, ready-word}
+use Rattle.replayer.specs.ReadyLaws.{ready, nowhere, ready-word}
 use Rattle.replayer.specs.ReadyOf.{isReady, readyOf}
 use Rattle.replayer.specs.Run.{taskAt, movedOf}
 use Rattle.replayer.specs.Sound.{soundOf, sound-facts}
-use Rattle.replayer.specs.StepLaws.{Goes, taken, turned, step-goes, step-keeps}
-use Rattle.replayer.specs.Word.{bit, wordOf}
+use Rattle.replayer.specs.StepLaws.{taken, turned, step-goes, step-keeps}
+use Rattle.replayer.specs.Word.{wordOf}
 
 -- a sound run with a memory of N entries
 pub record Playing (b : List ℕ) (x : Play) : Type 0 where

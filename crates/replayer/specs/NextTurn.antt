@@ -1,6 +1,6 @@
 -- One turn of the loop that judges the orderings of a group that was read, over plain variables.
 use mathlib.Core.Path.{_≡_, refl, sym, ap, _∙_}
-use mathlib.Core.Bool.{true}
+use mathlib.Core.Bool.{Bool, true, _&&_}
 use mathlib.Core.List.{List, [], _∷_}
 use Prim.Native.Nat.{ℕ, _+_, _*_, _≤_, _<_}
 use native.Mathlib.Omega.{arith}
@@ -94,7 +94,8 @@ module _ (runs : List TaskRun) (place : ℕ) (p : Position) (e : Entry) where
   unfolding judged allMet
   judged-met h =
       let o : place + 8 + entryLength e ≡ place + entryLength (record { orderings = p ∷ e .orderings; op = e .op }) = omega arith in
-      rw (le-leb (p .number) (doneOf runs (p .task)) h, o)
+      let m : allMet runs (p ∷ e .orderings) ≡ allMet runs (e .orderings) = ap (λ (t : Bool). t && allMet runs (e .orderings)) (le-leb _ _ h) in
+      rw (m, o)
 
   judged-unmet : doneOf runs (p .task) < p .number → judged runs place (read (record { orderings = p ∷ e .orderings; op = e .op })) ≡ Held
   unfolding judged allMet

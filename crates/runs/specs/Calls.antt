@@ -1,9 +1,8 @@
 -- The runs on the bench that concern the recorder (document 01, "Runs on the bench", marked P), by computation.
 use mathlib.Core.Path.{_≡_, refl}
-use mathlib.Core.Bool.{true}
-use mathlib.Core.List.{List, [], _∷_, _++_, map}
+use mathlib.Core.List.{List, [], _∷_, _++_}
 use Prim.Native.Nat.{ℕ}
-use lib.ListN.{length, take, replicate}
+use lib.ListN.{length, replicate}
 use Rattle.codec.specs.Encode.{start, startTwo, cell, cells, head, section, ordering, access}
 use Rattle.codec.specs.Field.{le2, le4, field2, field4}
 use Rattle.codec.specs.Decode.{recordOf, headOf, sectionOf as sectionRecordOf, bodyOf as fieldsOf}

@@ -35,8 +35,7 @@ use Rattle.tracker.specs.Range.{isWithin, allBelow as allBelow-tracker-range}
 use Rattle.tracker.specs.Row.{rowOf}
 use Rattle.tracker.specs.Sound.{soundOf, lastSound, taskSound, tasksSound, objectSound}
 use Rattle.tracker.specs.Sum.{sumOf}
-use Rattle.recorder.specs.WholeRun.{Call}
-use Rattle.fidelity.specs.Box.{Opening, Asked, recordedFrom, recordingOf, lastBox, firstBox}
+use Rattle.fidelity.specs.Box.{Opening, Asked, recordedFrom, recordingOf}
 use Rattle.fidelity.specs.Bench.{Bench, benchOf, steppedAll, tally as tallySteps}
 
 abbrev opening : Opening

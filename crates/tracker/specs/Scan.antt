@@ -1,6 +1,6 @@
 -- Soundness as the calls find it: all but the objects first, then the objects one by one.
 use mathlib.Core.Bool.{Bool, true, false, _&&_, and-true, and-false, and-eq-true-iff}
-use mathlib.Core.Path.{_≡_, sym, ap}
+use mathlib.Core.Path.{_≡_, sym, ap, _∙_}
 use Prim.Native.Nat.{ℕ, _+_, _≤_, _<_, min}
 use native.Mathlib.Numerals.{add-one}
 use native.Mathlib.Omega.{arith}
@@ -45,9 +45,17 @@ module _ (s : State) where
   scan-bad n h e = rw (all-fails (objectSoundAt s) (s .objects) n h e) (and-false (marksSound (marksOf s)))
 
   -- all objects that have a record
-  pub scan-all : soundTo (min (s .objects) 256) ≡ soundOf s
+  scan-all : soundTo (min (s .objects) 256) ≡ soundOf s
   unfolding soundTo soundOf marksSound
   scan-all = elim (split (marksSound (marksOf s))) [
     | passes p ↦ ap (λ (n : ℕ). marksSound (marksOf s) && allBelow (objectSoundAt s) n) (omega (arith, marks-low (marksOf s) p .1))
     | fails p ↦ rw p
   ]
+
+  -- the scan goes up to a number that is told by the marks: what is below it has a record and is an object, and there the scan is over
+  module _ (m : Marks) (e : m ≡ marksOf s) (n : ℕ) (q : n ≡ min (m .objects) 256) where
+    pub scan-low : (i : ℕ) → i < n → (i < 256) × (i < s .objects)
+    scan-low i h = let o = ap (λ (x : Marks). x .objects) e in (omega arith, omega arith)
+
+    pub scan-over : (i : ℕ) → i ≤ n → n ≤ i → soundTo i ≡ soundOf s
+    scan-over i h l = let o = ap (λ (x : Marks). x .objects) e in ap soundTo (omega arith) ∙ scan-all

@@ -2,8 +2,6 @@ use borrow.Author.Tests.{eq-eqb, ne-eqb}
 use Rattle.recorder.specs.OpenOf.{entriesOk}
 use Rattle.recorder.proofs.opening.entries_ok.Statement.{statement}
 use Rattle.recorder.proofs.opening.entries_ok.Tie as tie
-use Rattle.recorder.proofs.opening.entries_ok.Reads as reads
-use Rattle.recorder.proofs.opening.entries_ok.Lts as lts
 
 returns : tie.Need-returns
 unfolding entriesOk

@@ -1,18 +1,29 @@
-use mathlib.Core.Path.{sym, _∙_}
+use mathlib.Core.Path.{_≡_, sym, _∙_}
+use mathlib.Core.Bool.{true}
 use native.Mathlib.Omega.{arith}
+use lib.ListN.{length}
+use denote.Ref.{now}
 use borrow.Author.Tests.{not-true, not-false, lt-ltb, le-ltb}
 use Rattle.codec.specs.Kind.{headLength}
-use Rattle.tracker.specs.Range.{within-facts}
-use Rattle.recorder.specs.OpenOf.{openNumber}
+use Rattle.reader.specs.Parse.{allBelow}
+use Rattle.tracker.specs.Range.{isWithin, within-facts}
+use Rattle.recorder.specs.OpenOf.{entriesOk, openNumber}
 use borrow.Author.Needs.{needs}
 use Rattle.recorder.proofs.opening.open_number.Statement.{statement}
 use Rattle.recorder.proofs.opening.open_number.Tie as tie
-use Rattle.recorder.proofs.opening.open_number.Reads as reads
-use Rattle.recorder.proofs.opening.open_number.Lts as lts
-use Rattle.codec.proofs.kind.length_of.Reads as length-of-reads
-use Rattle.recorder.proofs.opening.entries_ok.Reads as entries-ok-reads
-use Rattle.recorder.proofs.opening.owners_below.Reads as owners-below-reads
-use Rattle.recorder.proofs.opening.within.Reads as within-reads
+
+-- the tests that were passed, one behind another
+tasks-fit : (c : tie.Else1) → isWithin 1 16 (c .before .before .before .args .tasks) ≡ true
+tasks-fit c = sym (c .before .within .ensures) ∙ not-false _ (c .if1 .left)
+
+objects-fit : (c : tie.Else2) → isWithin 1 256 (c .before .before .before .before .before .args .objects) ≡ true
+objects-fit c = sym (c .before .within2 .ensures) ∙ not-false _ (c .if2 .left)
+
+entries-fit : (c : tie.Else3) → let a = c .before .before .before .before .before .before .before .args in entriesOk (a .objects) (length (now (a .owners))) (a .starts) (a .memory) ≡ true
+entries-fit c = sym (c .before .entries-ok .ensures) ∙ not-false _ (c .if3 .left)
+
+owners-fit : (c : tie.Else4) → let a = c .before .before .before .before .before .before .before .before .before .args in allBelow (a .tasks) (now (a .owners)) ≡ true
+owners-fit c = sym (c .before .owners-below .ensures) ∙ not-false _ (c .if4 .left)
 
 within-requires : tie.Need-within-requires
 within-requires c κs = search needs
@@ -26,21 +37,21 @@ within-requires-2 c κs = search needs
 
 returns-2 : tie.Need-returns-2
 unfolding openNumber
-returns-2 c = rw (sym (c .before .before .before .within .ensures) ∙ not-false _ (c .before .before .if1 .left), sym (c .before .within2 .ensures) ∙ not-true _ (c .if2 .taken))
+returns-2 c = rw (tasks-fit (c .before .before), sym (c .before .within2 .ensures) ∙ not-true _ (c .if2 .taken))
 
 entries-ok-requires : tie.Need-entries-ok-requires
 entries-ok-requires c κs = search needs
 
 returns-3 : tie.Need-returns-3
 unfolding openNumber
-returns-3 c = rw (sym (c .before .before .before .before .before .within .ensures) ∙ not-false _ (c .before .before .before .before .if1 .left), sym (c .before .before .before .within2 .ensures) ∙ not-false _ (c .before .before .if2 .left), sym (c .before .entries-ok .ensures) ∙ not-true _ (c .if3 .taken))
+returns-3 c = let d = c .before .before in rw (tasks-fit (d .before .before), objects-fit d, sym (c .before .entries-ok .ensures) ∙ not-true _ (c .if3 .taken))
 
 owners-below-requires : tie.Need-owners-below-requires
 owners-below-requires c κs = search needs
 
 returns-4 : tie.Need-returns-4
 unfolding openNumber
-returns-4 c = rw (sym (c .before .before .before .before .before .before .before .within .ensures) ∙ not-false _ (c .before .before .before .before .before .before .if1 .left), sym (c .before .before .before .before .before .within2 .ensures) ∙ not-false _ (c .before .before .before .before .if2 .left), sym (c .before .before .before .entries-ok .ensures) ∙ not-false _ (c .before .before .if3 .left), sym (c .before .owners-below .ensures) ∙ not-true _ (c .if4 .taken))
+returns-4 c = let d = c .before .before in rw (tasks-fit (d .before .before .before .before), objects-fit (d .before .before), entries-fit d, sym (c .before .owners-below .ensures) ∙ not-true _ (c .if4 .taken))
 
 length-of-requires : tie.Need-length-of-requires
 length-of-requires c κs = search needs
@@ -49,18 +60,20 @@ cast-if5 : tie.Need-cast-if5
 cast-if5 c = search needs
 
 mul-if5 : tie.Need-mul-if5
-mul-if5 c = omega (arith, within-facts 1 256 _ (sym (c .before .before .before .before .before .before .within2 .ensures) ∙ not-false _ (c .before .before .before .before .before .if2 .left)) .1)
+mul-if5 c = omega (arith, within-facts 1 256 _ (objects-fit (c .before .before .before .before .before)) .1)
 
 add-if5 : tie.Need-add-if5
-add-if5 c = omega (arith, within-facts 1 256 _ (sym (c .before .before .before .before .before .before .within2 .ensures) ∙ not-false _ (c .before .before .before .before .before .if2 .left)) .1)
+add-if5 c = omega (arith, within-facts 1 256 _ (objects-fit (c .before .before .before .before .before)) .1)
 
 returns-5 : tie.Need-returns-5
 unfolding openNumber
-returns-5 c = rw (sym (c .before .before .before .before .before .before .before .before .before .within .ensures) ∙ not-false _ (c .before .before .before .before .before .before .before .before .if1 .left), sym (c .before .before .before .before .before .before .before .within2 .ensures) ∙ not-false _ (c .before .before .before .before .before .before .if2 .left), sym (c .before .before .before .before .before .entries-ok .ensures) ∙ not-false _ (c .before .before .before .before .if3 .left), sym (c .before .before .before .owners-below .ensures) ∙ not-false _ (c .before .before .if4 .left), lt-ltb (c .before .before .before .before .before .before .before .before .before .before .before .args .out) (headLength (c .before .before .before .before .before .before .before .before .before .before .before .args .objects)) (omega arith))
+returns-5 c = let d = c .before .before in let a = d .before .before .before .before .before .before .before .before .before .args in
+    rw (tasks-fit (d .before .before .before .before .before .before), objects-fit (d .before .before .before .before), entries-fit (d .before .before), owners-fit d, lt-ltb (a .out) (headLength (a .objects)) (omega arith))
 
 returns-6 : tie.Need-returns-6
 unfolding openNumber
-returns-6 c = rw (sym (c .before .before .before .before .before .before .before .before .before .within .ensures) ∙ not-false _ (c .before .before .before .before .before .before .before .before .if1 .left), sym (c .before .before .before .before .before .before .before .within2 .ensures) ∙ not-false _ (c .before .before .before .before .before .before .if2 .left), sym (c .before .before .before .before .before .entries-ok .ensures) ∙ not-false _ (c .before .before .before .before .if3 .left), sym (c .before .before .before .owners-below .ensures) ∙ not-false _ (c .before .before .if4 .left), le-ltb (c .before .before .before .before .before .before .before .before .before .before .before .args .out) (headLength (c .before .before .before .before .before .before .before .before .before .before .before .args .objects)) (omega arith))
+returns-6 c = let d = c .before .before in let a = d .before .before .before .before .before .before .before .before .before .args in
+    rw (tasks-fit (d .before .before .before .before .before .before), objects-fit (d .before .before .before .before), entries-fit (d .before .before), owners-fit d, le-ltb (a .out) (headLength (a .objects)) (omega arith))
 
 pub open-number-spec : {M : Type 1} → statement M
 open-number-spec =

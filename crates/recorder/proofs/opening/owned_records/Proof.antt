@@ -1,4 +1,4 @@
-use mathlib.Core.Path.{_≡_, refl, sym, _∙_}
+use mathlib.Core.Path.{_≡_, refl, sym}
 use Prim.Native.Nat.{_≤_, _-_}
 use native.Mathlib.Nat.{le-antisymm}
 use native.Mathlib.Omega.{arith}
@@ -8,8 +8,6 @@ use Rattle.tracker.specs.Opened.{ownedRecords, records-none, records-more}
 use borrow.Author.Needs.{needs}
 use Rattle.recorder.proofs.opening.owned_records.Statement.{statement}
 use Rattle.recorder.proofs.opening.owned_records.Tie as tie
-use Rattle.recorder.proofs.opening.owned_records.Reads as reads
-use Rattle.recorder.proofs.opening.owned_records.Lts as lts
 
 abbrev Inv-loop : tie.InvT-loop
 Inv-loop owners records₀ i₀ i-end records i =

@@ -8,8 +8,6 @@ use Rattle.recorder.specs.OpenTurn.{below-on, below-off, below-end}
 use borrow.Author.Needs.{needs}
 use Rattle.recorder.proofs.opening.owners_below.Statement.{statement}
 use Rattle.recorder.proofs.opening.owners_below.Tie as tie
-use Rattle.recorder.proofs.opening.owners_below.Reads as reads
-use Rattle.recorder.proofs.opening.owners_below.Lts as lts
 
 abbrev Inv-loop : tie.InvT-loop
 Inv-loop owners tasks i₀ i-end i =

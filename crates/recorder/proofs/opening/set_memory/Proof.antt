@@ -7,8 +7,6 @@ use Rattle.recorder.specs.OpenTurn.{copy-more, copy-end}
 use borrow.Author.Needs.{needs}
 use Rattle.recorder.proofs.opening.set_memory.Statement.{statement}
 use Rattle.recorder.proofs.opening.set_memory.Tie as tie
-use Rattle.recorder.proofs.opening.set_memory.Reads as reads
-use Rattle.recorder.proofs.opening.set_memory.Lts as lts
 
 abbrev Inv-loop : tie.InvT-loop
 Inv-loop memory₀ starts i₀ i-end memory i =

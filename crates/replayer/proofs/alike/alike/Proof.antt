@@ -41,12 +41,14 @@ returns-4 c = let d = c .before .before .before .before .before .before in
 returns-5 : tie.Need-returns-5
 unfolding alikeOf
 returns-5 c = let d = c .before .before .before .before .before .before .before .before .before in
-    rw (first-done (d .before .before), second-done d, eq-eqb _ _ (c .before .before .before .before .before .before .if3 .left), eq-eqb _ _ (c .before .before .before .if4 .left), ne-eqb _ _ (c .if5 .taken))
+    let a = d .before .before .before .before .before .before .args in
+    rw (first-done (d .before .before), second-done d, eq-eqb _ _ (c .before .before .before .before .before .before .if3 .left), eq-eqb _ _ (c .before .before .before .if4 .left), ne-eqb (a .x .steps) (a .y .steps) (c .if5 .taken))
 
 returns-6 : tie.Need-returns-6
 unfolding alikeOf
 returns-6 c = let d = c .before .before .before .before .before .before .before .before .before in
-    rw (first-done (d .before .before), second-done d, eq-eqb _ _ (c .before .before .before .before .before .before .if3 .left), eq-eqb _ _ (c .before .before .before .if4 .left), eq-eqb _ _ (c .if5 .left))
+    let a = d .before .before .before .before .before .before .args in
+    rw (first-done (d .before .before), second-done d, eq-eqb _ _ (c .before .before .before .before .before .before .if3 .left), eq-eqb _ _ (c .before .before .before .if4 .left), eq-eqb (a .x .steps) (a .y .steps) (c .if5 .left))
 
 pub alike-spec : {M : Type 1} → statement M
 alike-spec =

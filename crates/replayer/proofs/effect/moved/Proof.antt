@@ -1,3 +1,4 @@
+use mathlib.Core.Path.{refl}
 use borrow.Author.Needs.{needs}
 use Rattle.replayer.specs.Run.{movedOf}
 use Rattle.replayer.proofs.effect.moved.Statement.{statement}
@@ -17,7 +18,7 @@ array-set-from-runs c = search needs
 
 returns : tie.Need-returns
 unfolding movedOf
-returns c = rw (c .before .before .pre .1)
+returns c = rw (← c .before .before .pre .1) refl
 
 pub moved-spec : {M : Type 1} → statement M
 moved-spec = tie.close (tie.spec mul-x array-copy-out-x mul-runs array-set-from-runs returns)

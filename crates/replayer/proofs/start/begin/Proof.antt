@@ -1,5 +1,4 @@
-use mathlib.Core.Path.{sym, ap, _∙_}
-use borrow.Author.Needs.{needs}
+use mathlib.Core.Path.{ap, _∙_}
 use Rattle.replayer.specs.declared.Opened.{Opened}
 use Rattle.replayer.proofs.start.begin.Statement.{statement}
 use Rattle.replayer.proofs.start.begin.Tie as tie

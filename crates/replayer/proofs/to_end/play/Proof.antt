@@ -1,7 +1,6 @@
-use mathlib.Core.Path.{_≡_, ap, _∙_}
+use mathlib.Core.Path.{ap, _∙_}
 use native.Mathlib.Omega.{arith}
 use denote.Ref.{now}
-use borrow.Author.Needs.{needs}
 use Rattle.replayer.specs.ToEndTurn.{Playable, playable, plays, same-play}
 use Rattle.replayer.specs.Finish.{Play, shownPlay}
 use Rattle.replayer.proofs.to_end.play.Statement.{statement}
