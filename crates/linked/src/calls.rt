@@ -2,12 +2,17 @@
 // order in which the library's struct has them; a state or a run is put where it was lent.
 ghost use mathlib.Core.Path.{_≡_};
 ghost use Prim.Native.Nat.{_≤_};
-ghost use lib.ListN.{length, set};
+ghost use lib.ListN.{length};
+ghost use Rattle.codec.specs.Store.{store};
 ghost use Rattle.reader.specs.Calls.{checkedOf, bodyPart, bodyChecked};
 ghost use Rattle.reader.specs.Parse.{parse};
 ghost use Rattle.replayer.specs.OpenOf.{openOf};
+ghost use Rattle.replayer.specs.ReadyOf.{readyOf};
+ghost use Rattle.replayer.specs.StepOf.{stepOf};
 ghost use Rattle.replayer.specs.Alike.{sameOutcomeOf};
 ghost use Rattle.replayer.specs.ToEnd.{toEndOf};
+ghost use Rattle.linked.specs.Answers.{checkNumbers, replayOpenNumbers, readyNumbers, stepNumbers, sameNumbers, toEndNumbers};
+ghost use Rattle.linked.specs.Places.{runIn, placesOf};
 use crate::layout::put_run;
 use crate::layout::put_state;
 use crate::layout::run_of;
@@ -78,7 +83,7 @@ pub extern "C" fn wk_section(
 
 #[no_mangle]
 pub extern "C" fn wk_check(bytes: &[u8], answer: &mut [usize; 6])
-    ensures { λ _. ⌜ now (answer .exit) ≡ set (set (now (answer .entry)) 0 (checkedOf (parse (now (bytes .entry))) .number)) 1 (checkedOf (parse (now (bytes .entry))) .offset) ⌝ }
+    ensures { λ _. ⌜ now (answer .exit) ≡ store (now (answer .entry)) 0 (checkNumbers (checkedOf (parse (now (bytes .entry))))) ⌝ }
 {
     let r = reader::check(bytes);
     answer[0] = r.number as usize;
@@ -106,7 +111,7 @@ pub extern "C" fn wk_body(bytes: &[u8], task: usize, out: &mut [u8]) -> usize
 
 #[no_mangle]
 pub extern "C" fn wk_body_check(bytes: &[u8], task: usize, answer: &mut [usize; 6])
-    ensures { λ _. ⌜ now (answer .exit) ≡ set (set (now (answer .entry)) 0 (bodyChecked (parse (now (bytes .entry))) task .number)) 1 (bodyChecked (parse (now (bytes .entry))) task .offset) ⌝ }
+    ensures { λ _. ⌜ now (answer .exit) ≡ store (now (answer .entry)) 0 (checkNumbers (bodyChecked (parse (now (bytes .entry))) task)) ⌝ }
 {
     let r = reader::body_check(bytes, task);
     answer[0] = r.number as usize;
@@ -121,7 +126,8 @@ pub extern "C" fn wk_replay_open(
     answer: &mut [usize; 6],
 )
     ensures { λ _. ⌜ now (memory .exit) ≡ openOf (now (bytes .entry)) (now (memory .entry)) .memory ⌝ }
-    ensures { λ _. ⌜ now (answer .exit) ≡ set (set (now (answer .entry)) 0 (openOf (now (bytes .entry)) (now (memory .entry)) .answer .number)) 1 (openOf (now (bytes .entry)) (now (memory .entry)) .answer .offset) ⌝ }
+    ensures { λ _. ⌜ now (answer .exit) ≡ store (now (answer .entry)) 0 (replayOpenNumbers (openOf (now (bytes .entry)) (now (memory .entry)) .answer)) ⌝ }
+    ensures { λ _. ⌜ now (places .exit) ≡ store (now (places .entry)) 0 (placesOf (openOf (now (bytes .entry)) (now (memory .entry)) .answer .run)) ⌝ }
 {
     let r = replayer::open(bytes, memory);
     answer[0] = r.number as usize;
@@ -131,7 +137,9 @@ pub extern "C" fn wk_replay_open(
 }
 
 #[no_mangle]
-pub extern "C" fn wk_ready(places: &[usize; 66], bytes: &[u8], answer: &mut [usize; 6]) {
+pub extern "C" fn wk_ready(places: &[usize; 66], bytes: &[u8], answer: &mut [usize; 6])
+    ensures { λ _. ⌜ now (answer .exit) ≡ store (now (answer .entry)) 0 (readyNumbers (readyOf (runIn (now (places .entry))) (now (bytes .entry)))) ⌝ }
+{
     let run = run_of(places);
     let r = ready(run, bytes);
     answer[0] = r.number as usize;
@@ -147,7 +155,11 @@ pub extern "C" fn wk_step(
     memory: &mut [u32],
     task: usize,
     answer: &mut [usize; 6],
-) {
+)
+    ensures { λ _. ⌜ now (memory .exit) ≡ stepOf (runIn (now (places .entry))) (now (bytes .entry)) (now (memory .entry)) task .memory ⌝ }
+    ensures { λ _. ⌜ now (answer .exit) ≡ store (now (answer .entry)) 0 (stepNumbers (stepOf (runIn (now (places .entry))) (now (bytes .entry)) (now (memory .entry)) task .answer)) ⌝ }
+    ensures { λ _. ⌜ now (places .exit) ≡ store (now (places .entry)) 0 (placesOf (stepOf (runIn (now (places .entry))) (now (bytes .entry)) (now (memory .entry)) task .answer .run)) ⌝ }
+{
     let before = run_of(places);
     let r = replayer::step(before, bytes, memory, task);
     answer[0] = r.number as usize;
@@ -170,6 +182,7 @@ pub extern "C" fn wk_same_outcome(
 )
     ensures { λ _. ⌜ now («first_memory» .exit) ≡ sameOutcomeOf (now (first .entry)) (now (second .entry)) (now («first_memory» .entry)) (now («second_memory» .entry)) .first ⌝ }
     ensures { λ _. ⌜ now («second_memory» .exit) ≡ sameOutcomeOf (now (first .entry)) (now (second .entry)) (now («first_memory» .entry)) (now («second_memory» .entry)) .second ⌝ }
+    ensures { λ _. ⌜ now (answer .exit) ≡ store (now (answer .entry)) 0 (sameNumbers (sameOutcomeOf (now (first .entry)) (now (second .entry)) (now («first_memory» .entry)) (now («second_memory» .entry)) .answer)) ⌝ }
 {
     let r = same_outcome(first, second, first_memory, second_memory);
     answer[0] = r.number as usize;
@@ -180,6 +193,7 @@ pub extern "C" fn wk_same_outcome(
 #[no_mangle]
 pub extern "C" fn wk_replay_to_end(bytes: &[u8], memory: &mut [u32], answer: &mut [usize; 6])
     ensures { λ _. ⌜ now (memory .exit) ≡ toEndOf (now (bytes .entry)) (now (memory .entry)) .memory ⌝ }
+    ensures { λ _. ⌜ now (answer .exit) ≡ store (now (answer .entry)) 0 (toEndNumbers (toEndOf (now (bytes .entry)) (now (memory .entry)) .answer)) ⌝ }
 {
     let r = replay_to_end(bytes, memory);
     answer[0] = r.number as usize;

@@ -3,6 +3,9 @@
 // A state's halves are T, N, Last's task and number, Done and Took of each task, then for each object its case (0 write-held,
 // 1 read-held, else shared) and its task; its words are G, Seen of each task, and each object's share number.
 // A run's places are T and N, then for each task its place, end, done and count.
+ghost use mathlib.Core.Path.{_≡_};
+ghost use Rattle.codec.specs.Store.{store};
+ghost use Rattle.linked.specs.Places.{runIn, placesOf};
 use codec::Position;
 use replayer::Run;
 use replayer::TaskRun;
@@ -138,7 +141,9 @@ pub(crate) fn put_state(state: State, halves: &mut [u16; 548], words: &mut [u32;
     words[0] = state.shares;
 }
 
-pub(crate) fn run_of(places: &[usize; 66]) -> Run {
+pub(crate) fn run_of(places: &[usize; 66]) -> Run
+    ensures { λ r. ⌜ r ≡ runIn (now (places .entry)) ⌝ }
+{
     let blank = TaskRun {
         place: 0,
         end: 0,
@@ -162,7 +167,9 @@ pub(crate) fn run_of(places: &[usize; 66]) -> Run {
     }
 }
 
-pub(crate) fn put_run(run: Run, places: &mut [usize; 66]) {
+pub(crate) fn put_run(run: Run, places: &mut [usize; 66])
+    ensures { λ _. ⌜ now (places .exit) ≡ store (now (places .entry)) 0 (placesOf run) ⌝ }
+{
     places[0] = run.tasks;
     places[1] = run.objects;
     for t in 0..16 {

@@ -1,0 +1,5 @@
+pub mod Answers
+pub mod Each
+pub mod Places
+pub mod PlacesTurn
+pub mod Stores
