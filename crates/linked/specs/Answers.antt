@@ -6,12 +6,24 @@ use mathlib.Core.Path.{_≡_, refl}
 use Prim.Native.Nat.{ℕ}
 use mir.Val.{boolByte}
 use Rattle.reader.specs.declared.Checked.{Checked}
+use Rattle.recorder.specs.declared.Opened.{Opened}
+use Rattle.recorder.specs.declared.Accessed.{Accessed}
+use Rattle.recorder.specs.declared.Sectioned.{Sectioned}
 use Rattle.replayer.specs.declared.Opened.{Opened as ReplayOpened}
 use Rattle.replayer.specs.declared.ReadyWord.{ReadyWord}
 use Rattle.replayer.specs.declared.Stepped.{Stepped}
 use Rattle.replayer.specs.declared.alike.Compared.{Compared}
 use Rattle.replayer.specs.declared.to_end.Replayed.{Replayed}
 use Rattle.replayer.specs.Word.{bit, readyCount, lowestReady}
+
+abbrev pub openNumbers : Opened → List ℕ
+openNumbers a = a .number ∷ a .written ∷ []
+
+abbrev pub accessNumbers : Accessed → List ℕ
+accessNumbers a = a .number ∷ a .value ∷ a .row ∷ a .class ∷ a .written ∷ []
+
+abbrev pub sectionNumbers : Sectioned → List ℕ
+sectionNumbers a = a .number ∷ a .offset ∷ a .written ∷ []
 
 abbrev pub checkNumbers : Checked → List ℕ
 checkNumbers a = a .number ∷ a .offset ∷ []

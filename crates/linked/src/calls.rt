@@ -6,12 +6,16 @@ ghost use lib.ListN.{length};
 ghost use Rattle.codec.specs.Store.{store};
 ghost use Rattle.reader.specs.Calls.{checkedOf, bodyPart, bodyChecked};
 ghost use Rattle.reader.specs.Parse.{parse};
-ghost use Rattle.replayer.specs.OpenOf.{openOf};
+ghost use Rattle.recorder.specs.AccessOf.{accessOf};
+ghost use Rattle.recorder.specs.OpenOf.{openOf};
+ghost use Rattle.recorder.specs.SectionOf.{sectionOf};
+ghost use Rattle.replayer.specs.OpenOf.{openOf as replayOf};
 ghost use Rattle.replayer.specs.ReadyOf.{readyOf};
 ghost use Rattle.replayer.specs.StepOf.{stepOf};
 ghost use Rattle.replayer.specs.Alike.{sameOutcomeOf};
 ghost use Rattle.replayer.specs.ToEnd.{toEndOf};
-ghost use Rattle.linked.specs.Answers.{checkNumbers, replayOpenNumbers, readyNumbers, stepNumbers, sameNumbers, toEndNumbers};
+ghost use Rattle.linked.specs.Answers.{openNumbers, accessNumbers, sectionNumbers, checkNumbers, replayOpenNumbers, readyNumbers, stepNumbers, sameNumbers, toEndNumbers};
+ghost use Rattle.linked.specs.Halves.{stateIn, halvesOf, wordsOf};
 ghost use Rattle.linked.specs.Places.{runIn, placesOf};
 use crate::layout::put_run;
 use crate::layout::put_state;
@@ -34,7 +38,13 @@ pub extern "C" fn wk_open(
     halves: &mut [u16; 548],
     words: &mut [u32; 273],
     answer: &mut [usize; 6],
-) {
+)
+    ensures { λ _. ⌜ now (answer .exit) ≡ store (now (answer .entry)) 0 (openNumbers (openOf tasks objects (now (owners .entry)) (now (starts .entry)) (now (memory .entry)) (now (out .entry)) .answer)) ⌝ }
+    ensures { λ _. ⌜ now (memory .exit) ≡ openOf tasks objects (now (owners .entry)) (now (starts .entry)) (now (memory .entry)) (now (out .entry)) .memory ⌝ }
+    ensures { λ _. ⌜ now (out .exit) ≡ openOf tasks objects (now (owners .entry)) (now (starts .entry)) (now (memory .entry)) (now (out .entry)) .out ⌝ }
+    ensures { λ _. ⌜ now (halves .exit) ≡ store (now (halves .entry)) 0 (halvesOf (openOf tasks objects (now (owners .entry)) (now (starts .entry)) (now (memory .entry)) (now (out .entry)) .answer .state)) ⌝ }
+    ensures { λ _. ⌜ now (words .exit) ≡ store (now (words .entry)) 0 (wordsOf (openOf tasks objects (now (owners .entry)) (now (starts .entry)) (now (memory .entry)) (now (out .entry)) .answer .state)) ⌝ }
+{
     let r = recorder::open(tasks, objects, owners, starts, memory, out);
     answer[0] = r.number as usize;
     answer[1] = r.written;
@@ -53,7 +63,13 @@ pub extern "C" fn wk_access(
     memory: &mut [u32],
     out: &mut [u8],
     answer: &mut [usize; 6],
-) {
+)
+    ensures { λ _. ⌜ now (answer .exit) ≡ store (now (answer .entry)) 0 (accessNumbers (accessOf (stateIn (now (halves .entry)) (now (words .entry))) task object sort value (now (memory .entry)) (now (out .entry)) .answer)) ⌝ }
+    ensures { λ _. ⌜ now (memory .exit) ≡ accessOf (stateIn (now (halves .entry)) (now (words .entry))) task object sort value (now (memory .entry)) (now (out .entry)) .memory ⌝ }
+    ensures { λ _. ⌜ now (out .exit) ≡ accessOf (stateIn (now (halves .entry)) (now (words .entry))) task object sort value (now (memory .entry)) (now (out .entry)) .out ⌝ }
+    ensures { λ _. ⌜ now (halves .exit) ≡ store (now (halves .entry)) 0 (halvesOf (accessOf (stateIn (now (halves .entry)) (now (words .entry))) task object sort value (now (memory .entry)) (now (out .entry)) .answer .state)) ⌝ }
+    ensures { λ _. ⌜ now (words .exit) ≡ store (now (words .entry)) 0 (wordsOf (accessOf (stateIn (now (halves .entry)) (now (words .entry))) task object sort value (now (memory .entry)) (now (out .entry)) .answer .state)) ⌝ }
+{
     let before = state_of(halves, words);
     let r = recorder::access(before, task, object, sort, value, memory, out);
     answer[0] = r.number as usize;
@@ -73,7 +89,10 @@ pub extern "C" fn wk_section(
     log: &[u8],
     out: &mut [u8],
     answer: &mut [usize; 6],
-) {
+)
+    ensures { λ _. ⌜ now (answer .exit) ≡ store (now (answer .entry)) 0 (sectionNumbers (sectionOf (stateIn (now (halves .entry)) (now (words .entry))) task (now (log .entry)) (now (out .entry)) .answer)) ⌝ }
+    ensures { λ _. ⌜ now (out .exit) ≡ sectionOf (stateIn (now (halves .entry)) (now (words .entry))) task (now (log .entry)) (now (out .entry)) .out ⌝ }
+{
     let state = state_of(halves, words);
     let r = recorder::section(state, task, log, out);
     answer[0] = r.number as usize;
@@ -125,9 +144,9 @@ pub extern "C" fn wk_replay_open(
     places: &mut [usize; 66],
     answer: &mut [usize; 6],
 )
-    ensures { λ _. ⌜ now (memory .exit) ≡ openOf (now (bytes .entry)) (now (memory .entry)) .memory ⌝ }
-    ensures { λ _. ⌜ now (answer .exit) ≡ store (now (answer .entry)) 0 (replayOpenNumbers (openOf (now (bytes .entry)) (now (memory .entry)) .answer)) ⌝ }
-    ensures { λ _. ⌜ now (places .exit) ≡ store (now (places .entry)) 0 (placesOf (openOf (now (bytes .entry)) (now (memory .entry)) .answer .run)) ⌝ }
+    ensures { λ _. ⌜ now (memory .exit) ≡ replayOf (now (bytes .entry)) (now (memory .entry)) .memory ⌝ }
+    ensures { λ _. ⌜ now (answer .exit) ≡ store (now (answer .entry)) 0 (replayOpenNumbers (replayOf (now (bytes .entry)) (now (memory .entry)) .answer)) ⌝ }
+    ensures { λ _. ⌜ now (places .exit) ≡ store (now (places .entry)) 0 (placesOf (replayOf (now (bytes .entry)) (now (memory .entry)) .answer .run)) ⌝ }
 {
     let r = replayer::open(bytes, memory);
     answer[0] = r.number as usize;
