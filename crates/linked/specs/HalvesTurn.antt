@@ -1,11 +1,11 @@
 -- The loops that store a state, over plain variables.
-use mathlib.Core.Path.{_≡_, refl, ap, sym, _∙_}
-use mathlib.Core.List.{List, [], _∷_, _++_, append-assoc}
-use Prim.Native.Nat.{ℕ, zero, suc, _+_, _<_, _≤_}
+use mathlib.Core.Path.{_≡_, refl}
+use mathlib.Core.List.{List, _∷_, _++_, append-assoc}
+use Prim.Native.Nat.{ℕ, _+_, _<_}
 use native.Mathlib.Omega.{arith}
 use lib.ListN.{length, set, length-append}
 use Rattle.codec.specs.Store.{store, store-behind}
-use Rattle.linked.specs.Each.{each, each-length}
+use Rattle.linked.specs.Each.{each}
 use Rattle.linked.specs.Stores.{store-set, store-swap, store-more}
 
 -- two parts of one list, entry by entry: the first n of each are stored

@@ -1,7 +1,10 @@
 pub mod Answers
+pub mod Copy
 pub mod Each
 pub mod Halves
 pub mod HalvesTurn
+pub mod Packing
+pub mod PackingTurn
 pub mod Places
 pub mod PlacesTurn
 pub mod Stores

@@ -1,8 +1,8 @@
 // One call each, for a caller that compares answers: every field of the answer is put into `answer`, from its start, in the
 // order in which the library's struct has them; a state or a run is put where it was lent.
 ghost use mathlib.Core.Path.{_≡_};
-ghost use Prim.Native.Nat.{_≤_};
-ghost use lib.ListN.{length};
+ghost use Prim.Native.Nat.{min};
+ghost use lib.ListN.{length, take};
 ghost use Rattle.codec.specs.Store.{store};
 ghost use Rattle.reader.specs.Calls.{checkedOf, bodyPart, bodyChecked};
 ghost use Rattle.reader.specs.Parse.{parse};
@@ -110,7 +110,7 @@ pub extern "C" fn wk_check(bytes: &[u8], answer: &mut [usize; 6])
 }
 
 fn least(a: usize, b: usize) -> usize
-    ensures { λ r. ⌜ (r ≤ a) × (r ≤ b) ⌝ }
+    ensures { λ r. ⌜ r ≡ min a b ⌝ }
 {
     if a < b { a } else { b }
 }
@@ -119,6 +119,7 @@ fn least(a: usize, b: usize) -> usize
 #[no_mangle]
 pub extern "C" fn wk_body(bytes: &[u8], task: usize, out: &mut [u8]) -> usize
     ensures { λ r. ⌜ r ≡ length (bodyPart (parse (now (bytes .entry))) task (now (bytes .entry))) ⌝ }
+    ensures { λ r. ⌜ now (out .exit) ≡ store (now (out .entry)) 0 (take (length (now (out .entry))) (bodyPart (parse (now (bytes .entry))) task (now (bytes .entry)))) ⌝ }
 {
     let body = reader::body(bytes, task);
     let n = least(body.len(), out.len());
