@@ -11,7 +11,7 @@ use Rattle.replayer.specs.declared.Run.{Run}
 use Rattle.replayer.specs.Run.{taskAt}
 use Rattle.linked.specs.Places.{taskPlaces, firstPlaces, placesOf}
 
-places-length : (runs : List TaskRun) (n : ℕ) → length (firstPlaces runs n) ≡ 4 * n
+pub places-length : (runs : List TaskRun) (n : ℕ) → length (firstPlaces runs n) ≡ 4 * n
 unfolding firstPlaces
 places-length runs zero = refl
 places-length runs (suc n) = rw (length-append, places-length runs n) (omega arith)
