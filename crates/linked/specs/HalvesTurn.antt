@@ -10,15 +10,15 @@ use Rattle.linked.specs.Stores.{store-set, store-swap, store-more}
 
 -- two parts of one list, entry by entry: the first n of each are stored
 abbrev pub two : List ℕ → ℕ → ℕ → (ℕ → ℕ) → (ℕ → ℕ) → ℕ → List ℕ
-two l at below f g n = store (store l at (each f n)) below (each g n)
+two l at next f g n = store (store l at (each f n)) next (each g n)
 
-pub two-none : (l : List ℕ) (at below : ℕ) (f g : ℕ → ℕ) → l ≡ two l at below f g 0
+pub two-none : (l : List ℕ) (at next : ℕ) (f g : ℕ → ℕ) → l ≡ two l at next f g 0
 unfolding store each
-two-none l at below f g = refl
+two-none l at next f g = refl
 
-pub two-more : (l : List ℕ) (at below n : ℕ) (f g : ℕ → ℕ) → at + n < below →
-    set (set (two l at below f g n) (at + n) (f n)) (below + n) (g n) ≡ two l at below f g (n + 1)
-two-more l at below n f g h = rw (store-set (store l at (each f n)) (at + n) below (f n) (each g n) h, store-more l at n f, store-more _ below n g)
+pub two-more : (l : List ℕ) (at next n : ℕ) (f g : ℕ → ℕ) → at + n < next →
+    set (set (two l at next f g n) (at + n) (f n)) (next + n) (g n) ≡ two l at next f g (n + 1)
+two-more l at next n f g h = rw (store-set (store l at (each f n)) (at + n) next (f n) (each g n) h, store-more l at n f, store-more _ next n g)
 
 pub one-none : (l : List ℕ) (at : ℕ) (f : ℕ → ℕ) → l ≡ store l at (each f 0)
 unfolding store each
