@@ -1,13 +1,22 @@
 // One call each, for a caller that compares answers: every field of the answer is put into `answer`, from its start, in the
 // order in which the library's struct has them; a state or a run is put where it was lent.
 ghost use mathlib.Core.Path.{_≡_};
-ghost use Prim.Native.Nat.{_≤_};
-ghost use lib.ListN.{length, set};
+ghost use Prim.Native.Nat.{min};
+ghost use lib.ListN.{length, take};
+ghost use Rattle.codec.specs.Store.{store};
 ghost use Rattle.reader.specs.Calls.{checkedOf, bodyPart, bodyChecked};
 ghost use Rattle.reader.specs.Parse.{parse};
-ghost use Rattle.replayer.specs.OpenOf.{openOf};
+ghost use Rattle.recorder.specs.AccessOf.{accessOf};
+ghost use Rattle.recorder.specs.OpenOf.{openOf};
+ghost use Rattle.recorder.specs.SectionOf.{sectionOf};
+ghost use Rattle.replayer.specs.OpenOf.{openOf as replayOf};
+ghost use Rattle.replayer.specs.ReadyOf.{readyOf};
+ghost use Rattle.replayer.specs.StepOf.{stepOf};
 ghost use Rattle.replayer.specs.Alike.{sameOutcomeOf};
 ghost use Rattle.replayer.specs.ToEnd.{toEndOf};
+ghost use Rattle.linked.specs.Answers.{openNumbers, accessNumbers, sectionNumbers, checkNumbers, replayOpenNumbers, readyNumbers, stepNumbers, sameNumbers, toEndNumbers};
+ghost use Rattle.linked.specs.Halves.{stateIn, halvesOf, wordsOf};
+ghost use Rattle.linked.specs.Places.{runIn, placesOf};
 use crate::layout::put_run;
 use crate::layout::put_state;
 use crate::layout::run_of;
@@ -29,7 +38,13 @@ pub extern "C" fn wk_open(
     halves: &mut [u16; 548],
     words: &mut [u32; 273],
     answer: &mut [usize; 6],
-) {
+)
+    ensures { λ _. ⌜ now (answer .exit) ≡ store (now (answer .entry)) 0 (openNumbers (openOf tasks objects (now (owners .entry)) (now (starts .entry)) (now (memory .entry)) (now (out .entry)) .answer)) ⌝ }
+    ensures { λ _. ⌜ now (memory .exit) ≡ openOf tasks objects (now (owners .entry)) (now (starts .entry)) (now (memory .entry)) (now (out .entry)) .memory ⌝ }
+    ensures { λ _. ⌜ now (out .exit) ≡ openOf tasks objects (now (owners .entry)) (now (starts .entry)) (now (memory .entry)) (now (out .entry)) .out ⌝ }
+    ensures { λ _. ⌜ now (halves .exit) ≡ store (now (halves .entry)) 0 (halvesOf (openOf tasks objects (now (owners .entry)) (now (starts .entry)) (now (memory .entry)) (now (out .entry)) .answer .state)) ⌝ }
+    ensures { λ _. ⌜ now (words .exit) ≡ store (now (words .entry)) 0 (wordsOf (openOf tasks objects (now (owners .entry)) (now (starts .entry)) (now (memory .entry)) (now (out .entry)) .answer .state)) ⌝ }
+{
     let r = recorder::open(tasks, objects, owners, starts, memory, out);
     answer[0] = r.number as usize;
     answer[1] = r.written;
@@ -48,7 +63,13 @@ pub extern "C" fn wk_access(
     memory: &mut [u32],
     out: &mut [u8],
     answer: &mut [usize; 6],
-) {
+)
+    ensures { λ _. ⌜ now (answer .exit) ≡ store (now (answer .entry)) 0 (accessNumbers (accessOf (stateIn (now (halves .entry)) (now (words .entry))) task object sort value (now (memory .entry)) (now (out .entry)) .answer)) ⌝ }
+    ensures { λ _. ⌜ now (memory .exit) ≡ accessOf (stateIn (now (halves .entry)) (now (words .entry))) task object sort value (now (memory .entry)) (now (out .entry)) .memory ⌝ }
+    ensures { λ _. ⌜ now (out .exit) ≡ accessOf (stateIn (now (halves .entry)) (now (words .entry))) task object sort value (now (memory .entry)) (now (out .entry)) .out ⌝ }
+    ensures { λ _. ⌜ now (halves .exit) ≡ store (now (halves .entry)) 0 (halvesOf (accessOf (stateIn (now (halves .entry)) (now (words .entry))) task object sort value (now (memory .entry)) (now (out .entry)) .answer .state)) ⌝ }
+    ensures { λ _. ⌜ now (words .exit) ≡ store (now (words .entry)) 0 (wordsOf (accessOf (stateIn (now (halves .entry)) (now (words .entry))) task object sort value (now (memory .entry)) (now (out .entry)) .answer .state)) ⌝ }
+{
     let before = state_of(halves, words);
     let r = recorder::access(before, task, object, sort, value, memory, out);
     answer[0] = r.number as usize;
@@ -68,7 +89,10 @@ pub extern "C" fn wk_section(
     log: &[u8],
     out: &mut [u8],
     answer: &mut [usize; 6],
-) {
+)
+    ensures { λ _. ⌜ now (answer .exit) ≡ store (now (answer .entry)) 0 (sectionNumbers (sectionOf (stateIn (now (halves .entry)) (now (words .entry))) task (now (log .entry)) (now (out .entry)) .answer)) ⌝ }
+    ensures { λ _. ⌜ now (out .exit) ≡ sectionOf (stateIn (now (halves .entry)) (now (words .entry))) task (now (log .entry)) (now (out .entry)) .out ⌝ }
+{
     let state = state_of(halves, words);
     let r = recorder::section(state, task, log, out);
     answer[0] = r.number as usize;
@@ -78,7 +102,7 @@ pub extern "C" fn wk_section(
 
 #[no_mangle]
 pub extern "C" fn wk_check(bytes: &[u8], answer: &mut [usize; 6])
-    ensures { λ _. ⌜ now (answer .exit) ≡ set (set (now (answer .entry)) 0 (checkedOf (parse (now (bytes .entry))) .number)) 1 (checkedOf (parse (now (bytes .entry))) .offset) ⌝ }
+    ensures { λ _. ⌜ now (answer .exit) ≡ store (now (answer .entry)) 0 (checkNumbers (checkedOf (parse (now (bytes .entry))))) ⌝ }
 {
     let r = reader::check(bytes);
     answer[0] = r.number as usize;
@@ -86,7 +110,7 @@ pub extern "C" fn wk_check(bytes: &[u8], answer: &mut [usize; 6])
 }
 
 fn least(a: usize, b: usize) -> usize
-    ensures { λ r. ⌜ (r ≤ a) × (r ≤ b) ⌝ }
+    ensures { λ r. ⌜ r ≡ min a b ⌝ }
 {
     if a < b { a } else { b }
 }
@@ -95,6 +119,7 @@ fn least(a: usize, b: usize) -> usize
 #[no_mangle]
 pub extern "C" fn wk_body(bytes: &[u8], task: usize, out: &mut [u8]) -> usize
     ensures { λ r. ⌜ r ≡ length (bodyPart (parse (now (bytes .entry))) task (now (bytes .entry))) ⌝ }
+    ensures { λ r. ⌜ now (out .exit) ≡ store (now (out .entry)) 0 (take (length (now (out .entry))) (bodyPart (parse (now (bytes .entry))) task (now (bytes .entry)))) ⌝ }
 {
     let body = reader::body(bytes, task);
     let n = least(body.len(), out.len());
@@ -106,7 +131,7 @@ pub extern "C" fn wk_body(bytes: &[u8], task: usize, out: &mut [u8]) -> usize
 
 #[no_mangle]
 pub extern "C" fn wk_body_check(bytes: &[u8], task: usize, answer: &mut [usize; 6])
-    ensures { λ _. ⌜ now (answer .exit) ≡ set (set (now (answer .entry)) 0 (bodyChecked (parse (now (bytes .entry))) task .number)) 1 (bodyChecked (parse (now (bytes .entry))) task .offset) ⌝ }
+    ensures { λ _. ⌜ now (answer .exit) ≡ store (now (answer .entry)) 0 (checkNumbers (bodyChecked (parse (now (bytes .entry))) task)) ⌝ }
 {
     let r = reader::body_check(bytes, task);
     answer[0] = r.number as usize;
@@ -120,8 +145,9 @@ pub extern "C" fn wk_replay_open(
     places: &mut [usize; 66],
     answer: &mut [usize; 6],
 )
-    ensures { λ _. ⌜ now (memory .exit) ≡ openOf (now (bytes .entry)) (now (memory .entry)) .memory ⌝ }
-    ensures { λ _. ⌜ now (answer .exit) ≡ set (set (now (answer .entry)) 0 (openOf (now (bytes .entry)) (now (memory .entry)) .answer .number)) 1 (openOf (now (bytes .entry)) (now (memory .entry)) .answer .offset) ⌝ }
+    ensures { λ _. ⌜ now (memory .exit) ≡ replayOf (now (bytes .entry)) (now (memory .entry)) .memory ⌝ }
+    ensures { λ _. ⌜ now (answer .exit) ≡ store (now (answer .entry)) 0 (replayOpenNumbers (replayOf (now (bytes .entry)) (now (memory .entry)) .answer)) ⌝ }
+    ensures { λ _. ⌜ now (places .exit) ≡ store (now (places .entry)) 0 (placesOf (replayOf (now (bytes .entry)) (now (memory .entry)) .answer .run)) ⌝ }
 {
     let r = replayer::open(bytes, memory);
     answer[0] = r.number as usize;
@@ -131,7 +157,9 @@ pub extern "C" fn wk_replay_open(
 }
 
 #[no_mangle]
-pub extern "C" fn wk_ready(places: &[usize; 66], bytes: &[u8], answer: &mut [usize; 6]) {
+pub extern "C" fn wk_ready(places: &[usize; 66], bytes: &[u8], answer: &mut [usize; 6])
+    ensures { λ _. ⌜ now (answer .exit) ≡ store (now (answer .entry)) 0 (readyNumbers (readyOf (runIn (now (places .entry))) (now (bytes .entry)))) ⌝ }
+{
     let run = run_of(places);
     let r = ready(run, bytes);
     answer[0] = r.number as usize;
@@ -147,7 +175,11 @@ pub extern "C" fn wk_step(
     memory: &mut [u32],
     task: usize,
     answer: &mut [usize; 6],
-) {
+)
+    ensures { λ _. ⌜ now (memory .exit) ≡ stepOf (runIn (now (places .entry))) (now (bytes .entry)) (now (memory .entry)) task .memory ⌝ }
+    ensures { λ _. ⌜ now (answer .exit) ≡ store (now (answer .entry)) 0 (stepNumbers (stepOf (runIn (now (places .entry))) (now (bytes .entry)) (now (memory .entry)) task .answer)) ⌝ }
+    ensures { λ _. ⌜ now (places .exit) ≡ store (now (places .entry)) 0 (placesOf (stepOf (runIn (now (places .entry))) (now (bytes .entry)) (now (memory .entry)) task .answer .run)) ⌝ }
+{
     let before = run_of(places);
     let r = replayer::step(before, bytes, memory, task);
     answer[0] = r.number as usize;
@@ -170,6 +202,7 @@ pub extern "C" fn wk_same_outcome(
 )
     ensures { λ _. ⌜ now («first_memory» .exit) ≡ sameOutcomeOf (now (first .entry)) (now (second .entry)) (now («first_memory» .entry)) (now («second_memory» .entry)) .first ⌝ }
     ensures { λ _. ⌜ now («second_memory» .exit) ≡ sameOutcomeOf (now (first .entry)) (now (second .entry)) (now («first_memory» .entry)) (now («second_memory» .entry)) .second ⌝ }
+    ensures { λ _. ⌜ now (answer .exit) ≡ store (now (answer .entry)) 0 (sameNumbers (sameOutcomeOf (now (first .entry)) (now (second .entry)) (now («first_memory» .entry)) (now («second_memory» .entry)) .answer)) ⌝ }
 {
     let r = same_outcome(first, second, first_memory, second_memory);
     answer[0] = r.number as usize;
@@ -180,6 +213,7 @@ pub extern "C" fn wk_same_outcome(
 #[no_mangle]
 pub extern "C" fn wk_replay_to_end(bytes: &[u8], memory: &mut [u32], answer: &mut [usize; 6])
     ensures { λ _. ⌜ now (memory .exit) ≡ toEndOf (now (bytes .entry)) (now (memory .entry)) .memory ⌝ }
+    ensures { λ _. ⌜ now (answer .exit) ≡ store (now (answer .entry)) 0 (toEndNumbers (toEndOf (now (bytes .entry)) (now (memory .entry)) .answer)) ⌝ }
 {
     let r = replay_to_end(bytes, memory);
     answer[0] = r.number as usize;

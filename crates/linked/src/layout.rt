@@ -3,6 +3,13 @@
 // A state's halves are T, N, Last's task and number, Done and Took of each task, then for each object its case (0 write-held,
 // 1 read-held, else shared) and its task; its words are G, Seen of each task, and each object's share number.
 // A run's places are T and N, then for each task its place, end, done and count.
+ghost use mathlib.Core.Path.{_≡_};
+ghost use Rattle.codec.specs.Store.{store};
+ghost use Rattle.tracker.specs.Marks.{marksOf};
+ghost use Rattle.tracker.specs.State.{holderOf, shareOf};
+ghost use Rattle.linked.specs.Each.{each};
+ghost use Rattle.linked.specs.Halves.{recordOf, recordIn, stateIn, caseOf, casesOf, holdersOf, sharesOf, firstOf, halvesOf, wordsOf};
+ghost use Rattle.linked.specs.Places.{runIn, placesOf};
 use codec::Position;
 use replayer::Run;
 use replayer::TaskRun;
@@ -11,7 +18,9 @@ use tracker::Marks;
 use tracker::ObjectRecord;
 use tracker::State;
 
-fn record_of(case: u16, task: u16, share: u32) -> ObjectRecord {
+fn record_of(case: u16, task: u16, share: u32) -> ObjectRecord
+    ensures { λ r. ⌜ r ≡ recordOf case task share ⌝ }
+{
     let locality = match case {
         0 => Locality::WriteExclusive(task),
         1 => Locality::ReadExclusive(task),
@@ -20,7 +29,9 @@ fn record_of(case: u16, task: u16, share: u32) -> ObjectRecord {
     ObjectRecord { locality }
 }
 
-fn records_of(halves: &[u16; 548], words: &[u32; 273]) -> [ObjectRecord; 256] {
+fn records_of(halves: &[u16; 548], words: &[u32; 273]) -> [ObjectRecord; 256]
+    ensures { λ r. ⌜ r ≡ each (recordIn (now (halves .entry)) (now (words .entry))) 256 ⌝ }
+{
     let blank = record_of(0, 0, 0);
     let mut records = [blank; 256];
     for i in 0..256 {
@@ -31,7 +42,9 @@ fn records_of(halves: &[u16; 548], words: &[u32; 273]) -> [ObjectRecord; 256] {
 }
 
 // All of a state but its objects' records.
-fn marks_of(halves: &[u16; 548], words: &[u32; 273]) -> Marks {
+fn marks_of(halves: &[u16; 548], words: &[u32; 273]) -> Marks
+    ensures { λ r. ⌜ r ≡ marksOf (stateIn (now (halves .entry)) (now (words .entry))) ⌝ }
+{
     let mut done = [0u16; 16];
     let mut seen = [0u32; 16];
     let mut took = [0u16; 16];
@@ -55,7 +68,9 @@ fn marks_of(halves: &[u16; 548], words: &[u32; 273]) -> Marks {
     }
 }
 
-pub(crate) fn state_of(halves: &[u16; 548], words: &[u32; 273]) -> State {
+pub(crate) fn state_of(halves: &[u16; 548], words: &[u32; 273]) -> State
+    ensures { λ r. ⌜ r ≡ stateIn (now (halves .entry)) (now (words .entry)) ⌝ }
+{
     let records = records_of(halves, words);
     let marks = marks_of(halves, words);
     let done = marks.done;
@@ -74,7 +89,9 @@ pub(crate) fn state_of(halves: &[u16; 548], words: &[u32; 273]) -> State {
     }
 }
 
-fn case_of(locality: Locality) -> u16 {
+fn case_of(locality: Locality) -> u16
+    ensures { λ r. ⌜ r ≡ caseOf locality ⌝ }
+{
     match locality {
         Locality::WriteExclusive(_) => 0,
         Locality::ReadExclusive(_) => 1,
@@ -83,7 +100,9 @@ fn case_of(locality: Locality) -> u16 {
 }
 
 // 0 where every task has it.
-fn task_of(locality: Locality) -> u16 {
+fn task_of(locality: Locality) -> u16
+    ensures { λ r. ⌜ r ≡ holderOf locality ⌝ }
+{
     match locality {
         Locality::WriteExclusive(task) => task,
         Locality::ReadExclusive(task) => task,
@@ -92,14 +111,20 @@ fn task_of(locality: Locality) -> u16 {
 }
 
 // 0 where one task has it.
-fn share_of(locality: Locality) -> u32 {
+fn share_of(locality: Locality) -> u32
+    ensures { λ r. ⌜ r ≡ shareOf locality ⌝ }
+{
     match locality {
+        Locality::WriteExclusive(_) => 0,
+        Locality::ReadExclusive(_) => 0,
         Locality::ReadShared(share) => share,
-        _ => 0,
     }
 }
 
-fn put_records(records: [ObjectRecord; 256], halves: &mut [u16; 548], words: &mut [u32; 273]) {
+fn put_records(records: [ObjectRecord; 256], halves: &mut [u16; 548], words: &mut [u32; 273])
+    ensures { λ _. ⌜ now (halves .exit) ≡ store (store (now (halves .entry)) 36 (casesOf records 256)) 292 (holdersOf records 256) ⌝ }
+    ensures { λ _. ⌜ now (words .exit) ≡ store (now (words .entry)) 17 (sharesOf records 256) ⌝ }
+{
     for i in 0..256 {
         let record = records[i];
         let locality = record.locality;
@@ -115,7 +140,10 @@ fn put_tasks(
     took: [u16; 16],
     halves: &mut [u16; 548],
     words: &mut [u32; 273],
-) {
+)
+    ensures { λ _. ⌜ now (halves .exit) ≡ store (store (now (halves .entry)) 4 (firstOf done 16)) 20 (firstOf took 16) ⌝ }
+    ensures { λ _. ⌜ now (words .exit) ≡ store (now (words .entry)) 1 (firstOf seen 16) ⌝ }
+{
     for t in 0..16 {
         halves[4 + t] = done[t];
         words[1 + t] = seen[t];
@@ -123,7 +151,10 @@ fn put_tasks(
     }
 }
 
-pub(crate) fn put_state(state: State, halves: &mut [u16; 548], words: &mut [u32; 273]) {
+pub(crate) fn put_state(state: State, halves: &mut [u16; 548], words: &mut [u32; 273])
+    ensures { λ _. ⌜ now (halves .exit) ≡ store (now (halves .entry)) 0 (halvesOf state) ⌝ }
+    ensures { λ _. ⌜ now (words .exit) ≡ store (now (words .entry)) 0 (wordsOf state) ⌝ }
+{
     let records = state.records;
     put_records(records, halves, words);
     let done = state.done;
@@ -138,7 +169,9 @@ pub(crate) fn put_state(state: State, halves: &mut [u16; 548], words: &mut [u32;
     words[0] = state.shares;
 }
 
-pub(crate) fn run_of(places: &[usize; 66]) -> Run {
+pub(crate) fn run_of(places: &[usize; 66]) -> Run
+    ensures { λ r. ⌜ r ≡ runIn (now (places .entry)) ⌝ }
+{
     let blank = TaskRun {
         place: 0,
         end: 0,
@@ -162,7 +195,9 @@ pub(crate) fn run_of(places: &[usize; 66]) -> Run {
     }
 }
 
-pub(crate) fn put_run(run: Run, places: &mut [usize; 66]) {
+pub(crate) fn put_run(run: Run, places: &mut [usize; 66])
+    ensures { λ _. ⌜ now (places .exit) ≡ store (now (places .entry)) 0 (placesOf run) ⌝ }
+{
     places[0] = run.tasks;
     places[1] = run.objects;
     for t in 0..16 {

@@ -1,13 +1,16 @@
-use mathlib.Core.Path.{_≡_, ap}
+use mathlib.Core.Path.{_≡_, refl, ap}
 use Prim.Native.Nat.{_≤_, _-_}
-use lib.ListN.{length}
+use native.Mathlib.Omega.{arith}
+use lib.ListN.{length, take, length-set}
+use Rattle.codec.specs.Store.{store}
+use Rattle.linked.specs.Copy.{copy-none, copy-more, copy-all}
 use borrow.Author.Needs.{needs}
 use Rattle.linked.proofs.calls.wk_body.Statement.{statement}
 use Rattle.linked.proofs.calls.wk_body.Tie as tie
 
 abbrev Inv-loop : tie.InvT-loop
 Inv-loop bytes task out₀ body n i₀ out i =
-    (i ≤ n) × (length out ≡ length out₀)
+    (i ≤ n) × (length out ≡ length out₀) × (out ≡ store out₀ 0 (take i body))
 
 abbrev μ-loop : tie.MeasureT-loop
 μ-loop bytes task out₀ body n i₀ out i =
@@ -20,7 +23,7 @@ least-requires : tie.Need-least-requires Inv-loop μ-loop
 least-requires c κs = search needs
 
 loop-holds : tie.Need-loop-holds Inv-loop μ-loop
-loop-holds c = search needs
+loop-holds c = (omega arith, refl, copy-none _ (c .before .body .result .now))
 
 shared-slice-read-out : tie.Need-shared-slice-read-out Inv-loop μ-loop
 shared-slice-read-out c = search needs
@@ -35,13 +38,20 @@ loop-less : tie.Need-loop-less Inv-loop μ-loop
 loop-less c = search needs
 
 loop-again : tie.Need-loop-again Inv-loop μ-loop
-loop-again c = search needs
+loop-again c =
+    let l = c .before .before .loop in
+    let b = c .before .before .before .before .body .result .now in
+    (omega arith, simp length-set (l .inv .1), rw (l .inv .2) (copy-more _ b (l .i) (omega arith)))
 
 same-length : tie.Need-same-length Inv-loop μ-loop
 same-length c = search needs
 
 returns : tie.Need-returns Inv-loop μ-loop
-returns c = ap length (c .before .before .before .body .ensures)
+returns c =
+    let l = c .before .loop in
+    let b = c .before .before .before .body in
+    let e : l .i ≡ c .before .before .least .result = omega arith in
+    (ap length (b .ensures), rw (e, c .before .before .least .ensures, copy-all (b .result .now) (length (c .before .before .before .before .before .before .args .out .now)), b .ensures) at (l .inv .2))
 
 pub wk-body-spec : {M : Type 1} → statement M
 wk-body-spec =

@@ -1,3 +1,4 @@
+use Rattle.codec.specs.Store.{store}
 use borrow.Author.Needs.{needs}
 use Rattle.linked.proofs.calls.wk_check.Statement.{statement}
 use Rattle.linked.proofs.calls.wk_check.Tie as tie
@@ -15,6 +16,7 @@ element-write-answer-2 : tie.Need-element-write-answer-2
 element-write-answer-2 c = search needs
 
 returns : tie.Need-returns
+unfolding store
 returns c = rw (c .before .check .ensures)
 
 pub wk-check-spec : {M : Type 1} → statement M

@@ -1,3 +1,5 @@
+use mathlib.Core.Path.{_∙_}
+use Rattle.codec.specs.Store.{store}
 use borrow.Author.Needs.{needs}
 use Rattle.linked.proofs.calls.wk_replay_open.Statement.{statement}
 use Rattle.linked.proofs.calls.wk_replay_open.Tie as tie
@@ -21,7 +23,10 @@ same-length : tie.Need-same-length
 same-length c = search needs
 
 returns : tie.Need-returns
-returns c = (c .before .before .before .before .before .before .«open» .ensures .1, rw (c .before .before .before .before .before .before .«open» .ensures .0))
+unfolding store
+returns c =
+    let o = c .before .before .before .before .before .before .«open» .ensures in
+    (o .1, (rw (o .0), c .put-run .ensures ∙ rw (o .0)))
 
 pub wk-replay-open-spec : {M : Type 1} → statement M
 wk-replay-open-spec =

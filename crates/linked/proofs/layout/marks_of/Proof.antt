@@ -1,20 +1,20 @@
 use native.Mathlib.Omega.{arith}
-use lib.ListN.{length-set}
-use mathlib.Core.Path.{_≡_}
-use Prim.Native.Nat.{_≤_, _-_}
-use lib.ListN.{length}
+use mathlib.Core.Path.{refl}
+use Prim.Native.Nat.{_+_, _-_}
+use lib.ListN.{getD}
+use Rattle.linked.specs.Each.{Filled, filled-none, filled-more, filled-all}
 use borrow.Author.Needs.{needs}
 use Rattle.linked.proofs.layout.marks_of.Statement.{statement}
 use Rattle.linked.proofs.layout.marks_of.Tie as tie
 
 abbrev Inv-loop : tie.InvT-loop
-Inv-loop halves words done₀ seen₀ took₀ t₀ done seen took t = (t ≤ 16) × (length done ≡ 16) × (length seen ≡ 16) × (length took ≡ 16)
+Inv-loop halves words done₀ seen₀ took₀ t₀ done seen took t = Filled (λ k. getD halves (4 + k) 0) 16 done t × Filled (λ k. getD words (1 + k) 0) 16 seen t × Filled (λ k. getD halves (20 + k) 0) 16 took t
 
 abbrev μ-loop : tie.MeasureT-loop
 μ-loop halves words done₀ seen₀ took₀ t₀ done seen took t = 16 - t
 
 loop-holds : tie.Need-loop-holds Inv-loop μ-loop
-loop-holds c = search needs
+loop-holds c = (filled-none _ _ _ refl, filled-none _ _ _ refl, filled-none _ _ _ refl)
 
 add-done : tie.Need-add-done Inv-loop μ-loop
 add-done c = search needs
@@ -68,7 +68,9 @@ loop-less : tie.Need-loop-less Inv-loop μ-loop
 loop-less c = search needs
 
 loop-again : tie.Need-loop-again Inv-loop μ-loop
-loop-again c = let l = c .before .before .before .before .loop .inv in (omega arith, simp length-set (l .1), simp length-set (l .2), simp length-set (l .3))
+loop-again c =
+    let l = c .before .before .before .before .loop in
+    (filled-more _ 16 (l .done) (l .t) (omega arith) (l .inv .0), filled-more _ 16 (l .seen) (l .t) (omega arith) (l .inv .1), filled-more _ 16 (l .took) (l .t) (omega arith) (l .inv .2))
 
 element-copy-out-t28 : tie.Need-element-copy-out-t28 Inv-loop μ-loop
 element-copy-out-t28 c = search needs
@@ -86,7 +88,10 @@ element-copy-out-t41 : tie.Need-element-copy-out-t41 Inv-loop μ-loop
 element-copy-out-t41 c = search needs
 
 returns : tie.Need-returns Inv-loop μ-loop
-returns c = search needs
+returns c =
+    let l = c .before .before .before .before .before .before .loop in
+    let h = c .before .before .before .before .before .loop-test .left in
+    rw (filled-all _ 16 _ _ h (l .inv .0), filled-all _ 16 _ _ h (l .inv .1), filled-all _ 16 _ _ h (l .inv .2))
 
 pub marks-of-spec : {M : Type 1} → statement M
 marks-of-spec =

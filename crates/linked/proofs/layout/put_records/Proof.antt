@@ -1,3 +1,10 @@
+use mathlib.Core.Path.{_≡_}
+use native.Mathlib.Omega.{arith}
+use Rattle.codec.specs.Store.{store}
+use Rattle.tracker.specs.State.{holderOf}
+use Rattle.linked.specs.Halves.{caseOf, localityAt, sharesOf}
+use Rattle.linked.specs.HalvesTurn.{two, two-none, two-more, one-none}
+use Rattle.linked.specs.Stores.{store-more}
 use Prim.Native.Nat.{_≤_, _-_}
 use borrow.Author.Needs.{needs}
 use Rattle.linked.proofs.layout.put_records.Statement.{statement}
@@ -5,14 +12,14 @@ use Rattle.linked.proofs.layout.put_records.Tie as tie
 
 abbrev Inv-loop : tie.InvT-loop
 Inv-loop halves₀ words₀ records i₀ halves words i =
-    i ≤ 256
+    (i ≤ 256) × (halves ≡ two halves₀ 36 292 (λ k. caseOf (localityAt records k)) (λ k. holderOf (localityAt records k)) i) × (words ≡ store words₀ 17 (sharesOf records i))
 
 abbrev μ-loop : tie.MeasureT-loop
 μ-loop halves₀ words₀ records i₀ halves words i =
     256 - i
 
 loop-holds : tie.Need-loop-holds Inv-loop μ-loop
-loop-holds c = search needs
+loop-holds c = (omega arith, two-none _ _ _ _ _, one-none _ _ _)
 
 mul-record : tie.Need-mul-record Inv-loop μ-loop
 mul-record c = search needs
@@ -63,10 +70,15 @@ loop-less : tie.Need-loop-less Inv-loop μ-loop
 loop-less c = search needs
 
 loop-again : tie.Need-loop-again Inv-loop μ-loop
-loop-again c = search needs
+loop-again c =
+    let l = c .before .before .before .before .before .loop in (
+      omega arith,
+      rw (c .before .before .case-of .ensures, c .before .task-of .ensures, l .inv .1) (two-more _ 36 292 (l .i) _ _ (omega arith)),
+      rw (c .share-of .ensures, l .inv .2) (store-more _ 17 (l .i) _),
+    )
 
 returns : tie.Need-returns Inv-loop μ-loop
-returns c = search needs
+returns c = let l = c .before .loop in let e : l .i ≡ 256 = omega arith in (rw e at (l .inv .1), rw e at (l .inv .2))
 
 pub put-records-spec : {M : Type 1} → statement M
 put-records-spec =

@@ -1,11 +1,16 @@
+use mathlib.Core.Path.{_≡_, _∙_}
 use Prim.Native.Nat.{_≤_, _-_}
+use native.Mathlib.Omega.{arith}
+use Rattle.codec.specs.Store.{store}
+use Rattle.linked.specs.Places.{firstPlaces}
+use Rattle.linked.specs.PlacesTurn.{places-none, places-more, places-all}
 use borrow.Author.Needs.{needs}
 use Rattle.linked.proofs.layout.put_run.Statement.{statement}
 use Rattle.linked.proofs.layout.put_run.Tie as tie
 
 abbrev Inv-loop : tie.InvT-loop
 Inv-loop places₀ run t₀ places t =
-    t ≤ 16
+    (t ≤ 16) × (places ≡ store places₀ 2 (firstPlaces (run .runs) t))
 
 abbrev μ-loop : tie.MeasureT-loop
 μ-loop places₀ run t₀ places t =
@@ -18,7 +23,7 @@ element-write-places-2 : tie.Need-element-write-places-2 Inv-loop μ-loop
 element-write-places-2 c = search needs
 
 loop-holds : tie.Need-loop-holds Inv-loop μ-loop
-loop-holds c = search needs
+loop-holds c = (omega arith, places-none _ _)
 
 mul-x : tie.Need-mul-x Inv-loop μ-loop
 mul-x c = search needs
@@ -81,10 +86,10 @@ loop-less : tie.Need-loop-less Inv-loop μ-loop
 loop-less c = search needs
 
 loop-again : tie.Need-loop-again Inv-loop μ-loop
-loop-again c = search needs
+loop-again c = let l = c .before .before .loop in (omega arith, rw (l .inv .1) (places-more _ _ (l .t)))
 
 returns : tie.Need-returns Inv-loop μ-loop
-returns c = search needs
+returns c = let l = c .before .loop in let e : l .t ≡ 16 = omega arith in rw e at (l .inv .1) ∙ places-all (c .before .before .args .t1) (c .before .before .args .places .now)
 
 pub put-run-spec : {M : Type 1} → statement M
 put-run-spec =

@@ -1,3 +1,10 @@
+use mathlib.Core.Path.{_≡_}
+use native.Mathlib.Omega.{arith}
+use lib.ListN.{getD}
+use Rattle.codec.specs.Store.{store}
+use Rattle.linked.specs.Halves.{firstOf}
+use Rattle.linked.specs.HalvesTurn.{two, two-none, two-more, one-none}
+use Rattle.linked.specs.Stores.{store-more}
 use Prim.Native.Nat.{_≤_, _-_}
 use borrow.Author.Needs.{needs}
 use Rattle.linked.proofs.layout.put_tasks.Statement.{statement}
@@ -5,14 +12,14 @@ use Rattle.linked.proofs.layout.put_tasks.Tie as tie
 
 abbrev Inv-loop : tie.InvT-loop
 Inv-loop halves₀ words₀ done seen took t₀ halves words t =
-    t ≤ 16
+    (t ≤ 16) × (halves ≡ two halves₀ 4 20 (λ k. getD done k 0) (λ k. getD took k 0) t) × (words ≡ store words₀ 1 (firstOf seen t))
 
 abbrev μ-loop : tie.MeasureT-loop
 μ-loop halves₀ words₀ done seen took t₀ halves words t =
     16 - t
 
 loop-holds : tie.Need-loop-holds Inv-loop μ-loop
-loop-holds c = search needs
+loop-holds c = (omega arith, two-none _ _ _ _ _, one-none _ _ _)
 
 mul-halves : tie.Need-mul-halves Inv-loop μ-loop
 mul-halves c = search needs
@@ -66,10 +73,12 @@ loop-less : tie.Need-loop-less Inv-loop μ-loop
 loop-less c = search needs
 
 loop-again : tie.Need-loop-again Inv-loop μ-loop
-loop-again c = search needs
+loop-again c =
+    let l = c .before .loop in
+    (omega arith, rw (l .inv .1) (two-more _ 4 20 (l .t) _ _ (omega arith)), rw (l .inv .2) (store-more _ 1 (l .t) _))
 
 returns : tie.Need-returns Inv-loop μ-loop
-returns c = search needs
+returns c = let l = c .before .loop in let e : l .t ≡ 16 = omega arith in (rw e at (l .inv .1), rw e at (l .inv .2))
 
 pub put-tasks-spec : {M : Type 1} → statement M
 put-tasks-spec =

@@ -1,12 +1,14 @@
-use mathlib.Core.Path.{_≡_}
-use Prim.Native.Nat.{_≤_, _-_}
-use lib.ListN.{length}
+use mathlib.Core.Path.{refl}
+use Prim.Native.Nat.{_-_}
+use native.Mathlib.Omega.{arith}
+use Rattle.linked.specs.Each.{Filled, filled-none, filled-more, filled-all}
+use Rattle.linked.specs.Halves.{recordIn}
 use borrow.Author.Needs.{needs}
 use Rattle.linked.proofs.layout.records_of.Statement.{statement}
 use Rattle.linked.proofs.layout.records_of.Tie as tie
 
 abbrev Inv-loop : tie.InvT-loop
-Inv-loop halves words records₀ i₀ records i = (i ≤ 256) × (length records ≡ 256)
+Inv-loop halves words records₀ i₀ records i = Filled (recordIn halves words) 256 records i
 
 abbrev μ-loop : tie.MeasureT-loop
 μ-loop halves words records₀ i₀ records i = 256 - i
@@ -15,7 +17,7 @@ record-of-requires : tie.Need-record-of-requires Inv-loop μ-loop
 record-of-requires c κs = search needs
 
 loop-holds : tie.Need-loop-holds Inv-loop μ-loop
-loop-holds c = search needs
+loop-holds c = filled-none _ _ _ refl
 
 add-record-of : tie.Need-add-record-of Inv-loop μ-loop
 add-record-of c = search needs
@@ -60,10 +62,13 @@ loop-less : tie.Need-loop-less Inv-loop μ-loop
 loop-less c = search needs
 
 loop-again : tie.Need-loop-again Inv-loop μ-loop
-loop-again c = search needs
+loop-again c =
+    let a = c .before .before .before .before .before .before .before .args in
+    let l = c .before .before .before .before .before .loop in
+    rw (c .record-of2 .ensures) (filled-more (recordIn (a .halves .now) (a .words .now)) 256 (l .records) (l .i) (omega arith) (l .inv))
 
 returns : tie.Need-returns Inv-loop μ-loop
-returns c = search needs
+returns c = filled-all _ 256 _ _ (c .loop-test .left) (c .before .loop .inv)
 
 pub records-of-spec : {M : Type 1} → statement M
 records-of-spec =

@@ -1,18 +1,20 @@
-use mathlib.Core.Path.{_≡_}
-use Prim.Native.Nat.{_≤_, _-_}
-use lib.ListN.{length}
+use mathlib.Core.Path.{refl}
+use Prim.Native.Nat.{_-_}
+use native.Mathlib.Omega.{arith}
+use Rattle.linked.specs.Each.{Filled, filled-none, filled-more, filled-all}
+use Rattle.linked.specs.Places.{taskIn}
 use borrow.Author.Needs.{needs}
 use Rattle.linked.proofs.layout.run_of.Statement.{statement}
 use Rattle.linked.proofs.layout.run_of.Tie as tie
 
 abbrev Inv-loop : tie.InvT-loop
-Inv-loop places runs₀ t₀ runs t = (t ≤ 16) × (length runs ≡ 16)
+Inv-loop places runs₀ t₀ runs t = Filled (taskIn places) 16 runs t
 
 abbrev μ-loop : tie.MeasureT-loop
 μ-loop places runs₀ t₀ runs t = 16 - t
 
 loop-holds : tie.Need-loop-holds Inv-loop μ-loop
-loop-holds c = search needs
+loop-holds c = filled-none _ _ _ refl
 
 mul-t7 : tie.Need-mul-t7 Inv-loop μ-loop
 mul-t7 c = search needs
@@ -75,7 +77,7 @@ loop-less : tie.Need-loop-less Inv-loop μ-loop
 loop-less c = search needs
 
 loop-again : tie.Need-loop-again Inv-loop μ-loop
-loop-again c = search needs
+loop-again c = let l = c .before .before .before .before .before .loop in filled-more (taskIn (c .before .before .before .before .before .before .args .places .now)) 16 (l .runs) (l .t) (omega arith) (l .inv)
 
 element-copy-out-t35 : tie.Need-element-copy-out-t35 Inv-loop μ-loop
 element-copy-out-t35 c = search needs
@@ -84,7 +86,7 @@ element-copy-out-t38 : tie.Need-element-copy-out-t38 Inv-loop μ-loop
 element-copy-out-t38 c = search needs
 
 returns : tie.Need-returns Inv-loop μ-loop
-returns c = search needs
+returns c = rw (filled-all _ 16 _ _ (c .before .before .loop-test .left) (c .before .before .before .loop .inv))
 
 pub run-of-spec : {M : Type 1} → statement M
 run-of-spec =

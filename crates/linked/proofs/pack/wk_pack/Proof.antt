@@ -1,23 +1,27 @@
-use mathlib.Core.Path.{_≡_}
+use mathlib.Core.Path.{_≡_, refl, ap, _∙_}
 use Prim.Native.Nat.{_≤_, _-_}
-use lib.ListN.{length}
+use native.Mathlib.Omega.{arith}
+use lib.ListN.{length, drop}
+use Rattle.reader.specs.Part.{part}
+use Rattle.linked.specs.Packing.{packedFrom, packOf}
+use Rattle.linked.specs.PackingTurn.{pack-end, pack-back, pack-past, pack-more, one-fits, one-more, pack-left}
 use borrow.Author.Needs.{needs}
 use Rattle.linked.proofs.pack.wk_pack.Statement.{statement}
 use Rattle.linked.proofs.pack.wk_pack.Tie as tie
 
 abbrev Inv-loop : tie.InvT-loop
 Inv-loop halves words logs ends out₀ state from₀ at₀ t₀ t-end out from at t =
-    (t ≤ length ends) × (length out ≡ length out₀)
+    (t ≤ length ends) × (length out ≡ length out₀) × (at ≤ length out₀)
+    × (packedFrom state logs (drop t ends) t from (record { written = at; out = out }) ≡ packOf state logs ends out₀)
 
 abbrev μ-loop : tie.MeasureT-loop
-μ-loop halves words logs ends out₀ state from₀ at₀ t₀ t-end out from at t =
-    length ends - t
+μ-loop halves words logs ends out₀ state from₀ at₀ t₀ t-end out from at t = length ends - t
 
 state-of-requires : tie.Need-state-of-requires Inv-loop μ-loop
 state-of-requires c κs = search needs
 
 loop-holds : tie.Need-loop-holds Inv-loop μ-loop
-loop-holds c = search needs
+loop-holds c = (omega arith, refl, omega arith, refl)
 
 mul-to : tie.Need-mul-to Inv-loop μ-loop
 mul-to c = search needs
@@ -29,19 +33,17 @@ same-length : tie.Need-same-length Inv-loop μ-loop
 same-length c = search needs
 
 returns : tie.Need-returns Inv-loop μ-loop
-returns c = search needs
+returns c =
+    let l = c .before .before .before .loop in
+    pack-left _ _ _ _ _ (record { written = l .at; out = l .out }) _ (c .before .before .before .before .state-of .ensures) (pack-back _ _ _ (l .t) _ _ (c .before .before .loop-test .taken) (c .if1 .taken)) (l .inv .3)
 
 same-length-2 : tie.Need-same-length-2 Inv-loop μ-loop
 same-length-2 c = search needs
 
 returns-2 : tie.Need-returns-2 Inv-loop μ-loop
-returns-2 c = search needs
-
-same-length-3 : tie.Need-same-length-3 Inv-loop μ-loop
-same-length-3 c = search needs
-
-returns-3 : tie.Need-returns-3 Inv-loop μ-loop
-returns-3 c = search needs
+returns-2 c =
+    let l = c .before .before .before .before .loop in
+    pack-left _ _ _ _ _ (record { written = l .at; out = l .out }) _ (c .before .before .before .before .before .state-of .ensures) (pack-past _ _ _ (l .t) _ _ (c .before .before .before .loop-test .taken) (c .before .if1 .left) (c .if2 .taken)) (l .inv .3)
 
 part-section-start : tie.Need-part-section-start Inv-loop μ-loop
 part-section-start c = search needs
@@ -61,8 +63,11 @@ part-section-end-2 c = search needs
 section-requires : tie.Need-section-requires Inv-loop μ-loop
 section-requires c κs = search needs
 
-wrapping-add-usize-requires : tie.Need-wrapping-add-usize-requires Inv-loop μ-loop
-wrapping-add-usize-requires c κs = search needs
+add-at : tie.Need-add-at Inv-loop μ-loop
+add-at c =
+    let l = c .before .before .before .before .before .before .before .before .before .before .loop in
+    let e = c .before .before .before .section .ensures in
+    omega (arith, one-fits _ (l .t) _ (l .out) (l .at) (c .before .before .before .section .result) (omega arith) (e .0))
 
 add-t : tie.Need-add-t Inv-loop μ-loop
 add-t c = search needs
@@ -71,13 +76,24 @@ loop-less : tie.Need-loop-less Inv-loop μ-loop
 loop-less c = search needs
 
 loop-again : tie.Need-loop-again Inv-loop μ-loop
-loop-again c = search needs
+unfolding part
+loop-again c =
+    let l = c .before .before .before .before .before .before .before .before .before .before .loop in
+    let e = c .before .before .before .section .ensures in
+    let h : l .at ≤ length (l .out) = omega arith in (
+      omega arith,
+      search needs,
+      omega (arith, one-fits _ (l .t) _ (l .out) (l .at) (c .before .before .before .section .result) h (e .0)),
+      ap (packedFrom _ _ _ _ _) (one-more _ (l .t) _ (l .out) (l .at) (c .before .before .before .section .result) h (e .0) _ (e .1)) ∙ pack-more _ _ _ (l .t) _ _ (c .before .before .before .before .before .before .before .before .before .loop-test .taken) (c .before .before .before .before .before .before .before .if1 .left) (c .before .before .before .before .before .before .if2 .left) ∙ l .inv .3,
+    )
 
-same-length-4 : tie.Need-same-length-4 Inv-loop μ-loop
-same-length-4 c = search needs
+same-length-3 : tie.Need-same-length-3 Inv-loop μ-loop
+same-length-3 c = search needs
 
-returns-4 : tie.Need-returns-4 Inv-loop μ-loop
-returns-4 c = search needs
+returns-3 : tie.Need-returns-3 Inv-loop μ-loop
+returns-3 c =
+    let l = c .before .loop in
+    pack-left _ _ _ _ _ (record { written = l .at; out = l .out }) _ (c .before .before .state-of .ensures) (pack-end _ _ _ (l .t) _ _ (c .loop-test .left)) (l .inv .3)
 
 pub wk-pack-spec : {M : Type 1} → statement M
 wk-pack-spec =
@@ -93,17 +109,15 @@ wk-pack-spec =
     returns
     same-length-2
     returns-2
-    same-length-3
-    returns-3
     part-section-start
     part-section-end
     sub-section
     part-section-start-2
     part-section-end-2
     section-requires
-    wrapping-add-usize-requires
+    add-at
     add-t
     loop-less
     loop-again
-    same-length-4
-    returns-4)
+    same-length-3
+    returns-3)

@@ -1,0 +1,50 @@
+-- The numbers of an answer, in the order of its struct's fields, as a call stores them from the start of `answer` on. A state or a run
+-- is not among them: it has arrays of its own.
+use mathlib.Core.Bool.{Bool, true, false}
+use mathlib.Core.List.{List, [], _∷_}
+use mathlib.Core.Path.{_≡_, refl}
+use Prim.Native.Nat.{ℕ}
+use mir.Val.{boolByte}
+use Rattle.reader.specs.declared.Checked.{Checked}
+use Rattle.recorder.specs.declared.Opened.{Opened}
+use Rattle.recorder.specs.declared.Accessed.{Accessed}
+use Rattle.recorder.specs.declared.Sectioned.{Sectioned}
+use Rattle.replayer.specs.declared.Opened.{Opened as ReplayOpened}
+use Rattle.replayer.specs.declared.ReadyWord.{ReadyWord}
+use Rattle.replayer.specs.declared.Stepped.{Stepped}
+use Rattle.replayer.specs.declared.alike.Compared.{Compared}
+use Rattle.replayer.specs.declared.to_end.Replayed.{Replayed}
+use Rattle.replayer.specs.Word.{bit, readyCount, lowestReady}
+
+abbrev pub openNumbers : Opened → List ℕ
+openNumbers a = a .number ∷ a .written ∷ []
+
+abbrev pub accessNumbers : Accessed → List ℕ
+accessNumbers a = a .number ∷ a .value ∷ a .row ∷ a .class ∷ a .written ∷ []
+
+abbrev pub sectionNumbers : Sectioned → List ℕ
+sectionNumbers a = a .number ∷ a .offset ∷ a .written ∷ []
+
+abbrev pub checkNumbers : Checked → List ℕ
+checkNumbers a = a .number ∷ a .offset ∷ []
+
+abbrev pub replayOpenNumbers : ReplayOpened → List ℕ
+replayOpenNumbers a = a .number ∷ a .offset ∷ []
+
+-- how many tasks are ready and the lowest of them are read off the word
+abbrev pub readyNumbers : ReadyWord → List ℕ
+readyNumbers a = a .number ∷ a .word ∷ readyCount (a .word) ∷ lowestReady (a .word) ∷ []
+
+abbrev pub stepNumbers : Stepped → List ℕ
+stepNumbers a = a .number ∷ a .offset ∷ a .kind ∷ a .object ∷ a .value ∷ a .access ∷ []
+
+abbrev pub sameNumbers : Compared → List ℕ
+sameNumbers a = a .number ∷ a .offset ∷ bit (a .alike) ∷ []
+
+abbrev pub toEndNumbers : Replayed → List ℕ
+toEndNumbers a = a .number ∷ a .offset ∷ a .steps ∷ bit (a .finished) ∷ []
+
+-- a bool that is cast is its bit
+pub bool-bit : (b : Bool) → boolByte b ≡ bit b
+bool-bit true = refl
+bool-bit false = refl

@@ -1,0 +1,70 @@
+-- A recorder state as 548 halves and 273 words. Halves: T, N, Last's task and number, Done and Took of each task, each object's case
+-- (0 write-held, 1 read-held, else shared), each object's task. Words: G, Seen of each task, each object's share number.
+use mathlib.Core.Bool.{cond}
+use mathlib.Core.List.{List, _∷_, _++_}
+use Prim.Native.Nat.{ℕ, _+_}
+use lib.Dec.{eqb}
+use lib.ListN.{getD}
+use Rattle.tracker.specs.declared.Locality.{Locality}
+use Rattle.tracker.specs.declared.Locality.the-variants.{WriteExclusive, ReadExclusive, ReadShared}
+use Rattle.tracker.specs.declared.ObjectRecord.{ObjectRecord}
+use Rattle.tracker.specs.declared.State.{State}
+use Rattle.tracker.specs.State.{holderOf, shareOf, owned, position}
+use Rattle.linked.specs.Each.{each}
+
+-- an object's record by its case, task and share number
+unfoldable pub recordOf : ℕ → ℕ → ℕ → ObjectRecord
+recordOf case task share = record {
+  locality = cond (eqb case 0) (WriteExclusive task) (cond (eqb case 1) (ReadExclusive task) (ReadShared share));
+}
+
+abbrev pub recordIn : List ℕ → List ℕ → ℕ → ObjectRecord
+recordIn halves words i = recordOf (getD halves (36 + i) 0) (getD halves (292 + i) 0) (getD words (17 + i) 0)
+
+-- 16 entries from a place on
+abbrev pub entriesIn : List ℕ → ℕ → List ℕ
+entriesIn l at = each (λ (t : ℕ). getD l (at + t) 0) 16
+
+-- the state that a pair of arrays means
+abbrev pub stateIn : List ℕ → List ℕ → State
+stateIn halves words = record {
+  tasks = getD halves 0 0;
+  objects = getD halves 1 0;
+  records = each (recordIn halves words) 256;
+  done = entriesIn halves 4;
+  seen = entriesIn words 1;
+  took = entriesIn halves 20;
+  shares = getD words 0 0;
+  last = position (getD halves 2 0) (getD halves 3 0);
+}
+
+-- the numbers of an object's record
+abbrev pub caseOf : Locality → ℕ
+caseOf (WriteExclusive task) = 0
+caseOf (ReadExclusive task) = 1
+caseOf (ReadShared share) = 2
+
+abbrev pub localityAt : List ObjectRecord → ℕ → Locality
+localityAt records i = getD records i (owned 0) .locality
+
+abbrev pub casesOf : List ObjectRecord → ℕ → List ℕ
+casesOf records n = each (λ (i : ℕ). caseOf (localityAt records i)) n
+
+abbrev pub holdersOf : List ObjectRecord → ℕ → List ℕ
+holdersOf records n = each (λ (i : ℕ). holderOf (localityAt records i)) n
+
+abbrev pub sharesOf : List ObjectRecord → ℕ → List ℕ
+sharesOf records n = each (λ (i : ℕ). shareOf (localityAt records i)) n
+
+-- the first n entries
+abbrev pub firstOf : List ℕ → ℕ → List ℕ
+firstOf l n = each (λ (t : ℕ). getD l t 0) n
+
+-- the numbers that a state is stored as
+abbrev pub halvesOf : State → List ℕ
+halvesOf s =
+    s .tasks ∷ s .objects ∷ s .last .task ∷ s .last .number
+    ∷ (firstOf (s .done) 16 ++ (firstOf (s .took) 16 ++ (casesOf (s .records) 256 ++ holdersOf (s .records) 256)))
+
+abbrev pub wordsOf : State → List ℕ
+wordsOf s = s .shares ∷ (firstOf (s .seen) 16 ++ sharesOf (s .records) 256)

@@ -1,0 +1,12 @@
+pub mod Answers
+pub mod Copy
+pub mod Each
+pub mod Halves
+pub mod HalvesBack
+pub mod HalvesTurn
+pub mod Packing
+pub mod PackingTurn
+pub mod Places
+pub mod PlacesBack
+pub mod PlacesTurn
+pub mod Stores

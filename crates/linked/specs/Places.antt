@@ -1,0 +1,31 @@
+-- A run as 66 numbers: T and N, then for each task its place, end, done and count.
+use mathlib.Core.List.{List, [], _∷_, _++_}
+use Prim.Native.Nat.{ℕ, zero, suc, _+_, _*_}
+use lib.ListN.{getD}
+use Rattle.replayer.specs.declared.TaskRun.{TaskRun}
+use Rattle.replayer.specs.declared.Run.{Run}
+use Rattle.replayer.specs.Run.{taskAt}
+use Rattle.linked.specs.Each.{each}
+
+-- the run that an array means
+abbrev pub taskIn : List ℕ → ℕ → TaskRun
+taskIn places t = record {
+  place = getD places (2 + 4 * t) 0;
+  end = getD places (3 + 4 * t) 0;
+  done = getD places (4 + 4 * t) 0;
+  count = getD places (5 + 4 * t) 0;
+}
+
+abbrev pub runIn : List ℕ → Run
+runIn places = record { tasks = getD places 0 0; objects = getD places 1 0; runs = each (taskIn places) 16 }
+
+-- the numbers that a run is stored as, first those of its first n tasks
+abbrev pub taskPlaces : TaskRun → List ℕ
+taskPlaces x = x .place ∷ x .end ∷ x .done ∷ x .count ∷ []
+
+unfoldable pub firstPlaces : List TaskRun → ℕ → List ℕ
+firstPlaces runs zero = []
+firstPlaces runs (suc n) = firstPlaces runs n ++ taskPlaces (taskAt runs n)
+
+abbrev pub placesOf : Run → List ℕ
+placesOf r = r .tasks ∷ r .objects ∷ firstPlaces (r .runs) 16
