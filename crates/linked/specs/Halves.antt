@@ -5,6 +5,7 @@ use mathlib.Core.List.{List, _∷_, _++_}
 use Prim.Native.Nat.{ℕ, _+_}
 use lib.Dec.{eqb}
 use lib.ListN.{getD}
+use Rattle.codec.specs.Store.{store}
 use Rattle.tracker.specs.declared.Locality.{Locality}
 use Rattle.tracker.specs.declared.Locality.the-variants.{WriteExclusive, ReadExclusive, ReadShared}
 use Rattle.tracker.specs.declared.ObjectRecord.{ObjectRecord}
@@ -68,3 +69,7 @@ halvesOf s =
 
 abbrev pub wordsOf : State → List ℕ
 wordsOf s = s .shares ∷ (firstOf (s .seen) 16 ++ sharesOf (s .records) 256)
+
+-- an array after a call that moves the state: a refused one leaves it, whatever numbers without a meaning it holds
+unfoldable pub movedTo : ℕ → List ℕ → List ℕ → List ℕ
+movedTo number l numbers = cond (eqb number 0) (store l 0 numbers) l

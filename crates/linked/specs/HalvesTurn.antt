@@ -1,11 +1,13 @@
--- The loops that store a state, over plain variables.
+-- How a state is stored, over plain variables.
 use mathlib.Core.Path.{_≡_, refl}
 use mathlib.Core.List.{List, _∷_, _++_, append-assoc}
 use Prim.Native.Nat.{ℕ, _+_, _<_}
 use native.Mathlib.Omega.{arith}
+use borrow.Author.Tests.{eq-eqb, ne-eqb}
 use lib.ListN.{length, set, length-append}
 use Rattle.codec.specs.Store.{store, store-behind}
 use Rattle.linked.specs.Each.{each}
+use Rattle.linked.specs.Halves.{movedTo}
 use Rattle.linked.specs.Stores.{store-set, store-swap, store-more}
 
 -- two parts of one list, entry by entry: the first n of each are stored
@@ -50,3 +52,12 @@ pub words-all : (l seen shares : List ℕ) (v : ℕ) → length seen ≡ 16 →
 unfolding store
 words-all l seen shares v h =
     rw (store-swap l 1 17 seen shares (omega arith), store-behind l 1 16 seen shares h, store-set l 0 1 v (seen ++ shares) (omega arith))
+
+-- an array after a call that moves the state
+pub moved-not : (number : ℕ) (l numbers : List ℕ) → (number ≡ 0 → ⊥) → l ≡ movedTo number l numbers
+unfolding movedTo
+moved-not number l numbers h = rw (ne-eqb number 0 h)
+
+pub moved-on : (number : ℕ) (l numbers : List ℕ) → number ≡ 0 → store l 0 numbers ≡ movedTo number l numbers
+unfolding movedTo
+moved-on number l numbers h = rw (eq-eqb number 0 h)

@@ -1,5 +1,6 @@
-// One call each, for a caller that compares answers: every field of the answer is put into `answer`, from its start, in the
-// order in which the library's struct has them; a state or a run is put where it was lent.
+// One call each: every field of the answer is put into `answer`, from its start, in the order in which the library's struct has them; a
+// state or a run is put where it was lent. A refused access leaves the arrays of its state: stored again, a number in them that means
+// nothing would change.
 ghost use mathlib.Core.Path.{_≡_};
 ghost use Prim.Native.Nat.{min};
 ghost use lib.ListN.{length, take};
@@ -15,7 +16,7 @@ ghost use Rattle.replayer.specs.StepOf.{stepOf};
 ghost use Rattle.replayer.specs.Alike.{sameOutcomeOf};
 ghost use Rattle.replayer.specs.ToEnd.{toEndOf};
 ghost use Rattle.linked.specs.Answers.{openNumbers, accessNumbers, sectionNumbers, checkNumbers, replayOpenNumbers, readyNumbers, stepNumbers, sameNumbers, toEndNumbers};
-ghost use Rattle.linked.specs.Halves.{stateIn, halvesOf, wordsOf};
+ghost use Rattle.linked.specs.Halves.{stateIn, halvesOf, wordsOf, movedTo};
 ghost use Rattle.linked.specs.Places.{runIn, placesOf};
 use crate::layout::put_run;
 use crate::layout::put_state;
@@ -67,8 +68,8 @@ pub extern "C" fn wk_access(
     ensures { λ _. ⌜ now (answer .exit) ≡ store (now (answer .entry)) 0 (accessNumbers (accessOf (stateIn (now (halves .entry)) (now (words .entry))) task object sort value (now (memory .entry)) (now (out .entry)) .answer)) ⌝ }
     ensures { λ _. ⌜ now (memory .exit) ≡ accessOf (stateIn (now (halves .entry)) (now (words .entry))) task object sort value (now (memory .entry)) (now (out .entry)) .memory ⌝ }
     ensures { λ _. ⌜ now (out .exit) ≡ accessOf (stateIn (now (halves .entry)) (now (words .entry))) task object sort value (now (memory .entry)) (now (out .entry)) .out ⌝ }
-    ensures { λ _. ⌜ now (halves .exit) ≡ store (now (halves .entry)) 0 (halvesOf (accessOf (stateIn (now (halves .entry)) (now (words .entry))) task object sort value (now (memory .entry)) (now (out .entry)) .answer .state)) ⌝ }
-    ensures { λ _. ⌜ now (words .exit) ≡ store (now (words .entry)) 0 (wordsOf (accessOf (stateIn (now (halves .entry)) (now (words .entry))) task object sort value (now (memory .entry)) (now (out .entry)) .answer .state)) ⌝ }
+    ensures { λ _. ⌜ now (halves .exit) ≡ movedTo (accessOf (stateIn (now (halves .entry)) (now (words .entry))) task object sort value (now (memory .entry)) (now (out .entry)) .answer .number) (now (halves .entry)) (halvesOf (accessOf (stateIn (now (halves .entry)) (now (words .entry))) task object sort value (now (memory .entry)) (now (out .entry)) .answer .state)) ⌝ }
+    ensures { λ _. ⌜ now (words .exit) ≡ movedTo (accessOf (stateIn (now (halves .entry)) (now (words .entry))) task object sort value (now (memory .entry)) (now (out .entry)) .answer .number) (now (words .entry)) (wordsOf (accessOf (stateIn (now (halves .entry)) (now (words .entry))) task object sort value (now (memory .entry)) (now (out .entry)) .answer .state)) ⌝ }
 {
     let before = state_of(halves, words);
     let r = recorder::access(before, task, object, sort, value, memory, out);
@@ -77,6 +78,9 @@ pub extern "C" fn wk_access(
     answer[2] = r.row as usize;
     answer[3] = r.class as usize;
     answer[4] = r.written;
+    if r.number != 0 {
+        return;
+    }
     let state = r.state;
     put_state(state, halves, words);
 }

@@ -6,7 +6,6 @@
 ghost use mathlib.Core.Path.{_≡_};
 ghost use Rattle.codec.specs.Store.{store};
 ghost use Rattle.tracker.specs.Marks.{marksOf};
-ghost use Rattle.tracker.specs.State.{holderOf, shareOf};
 ghost use Rattle.linked.specs.Each.{each};
 ghost use Rattle.linked.specs.Halves.{recordOf, recordIn, stateIn, caseOf, casesOf, holdersOf, sharesOf, firstOf, halvesOf, wordsOf};
 ghost use Rattle.linked.specs.Places.{runIn, placesOf};
@@ -17,6 +16,8 @@ use tracker::Locality;
 use tracker::Marks;
 use tracker::ObjectRecord;
 use tracker::State;
+use tracker::advance::holder_of;
+use tracker::advance::share_of;
 
 fn record_of(case: u16, task: u16, share: u32) -> ObjectRecord
     ensures { λ r. ⌜ r ≡ recordOf case task share ⌝ }
@@ -99,28 +100,6 @@ fn case_of(locality: Locality) -> u16
     }
 }
 
-// 0 where every task has it.
-fn task_of(locality: Locality) -> u16
-    ensures { λ r. ⌜ r ≡ holderOf locality ⌝ }
-{
-    match locality {
-        Locality::WriteExclusive(task) => task,
-        Locality::ReadExclusive(task) => task,
-        Locality::ReadShared(_) => 0,
-    }
-}
-
-// 0 where one task has it.
-fn share_of(locality: Locality) -> u32
-    ensures { λ r. ⌜ r ≡ shareOf locality ⌝ }
-{
-    match locality {
-        Locality::WriteExclusive(_) => 0,
-        Locality::ReadExclusive(_) => 0,
-        Locality::ReadShared(share) => share,
-    }
-}
-
 fn put_records(records: [ObjectRecord; 256], halves: &mut [u16; 548], words: &mut [u32; 273])
     ensures { λ _. ⌜ now (halves .exit) ≡ store (store (now (halves .entry)) 36 (casesOf records 256)) 292 (holdersOf records 256) ⌝ }
     ensures { λ _. ⌜ now (words .exit) ≡ store (now (words .entry)) 17 (sharesOf records 256) ⌝ }
@@ -129,7 +108,7 @@ fn put_records(records: [ObjectRecord; 256], halves: &mut [u16; 548], words: &mu
         let record = records[i];
         let locality = record.locality;
         halves[36 + i] = case_of(locality);
-        halves[292 + i] = task_of(locality);
+        halves[292 + i] = holder_of(locality);
         words[17 + i] = share_of(locality);
     }
 }

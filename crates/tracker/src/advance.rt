@@ -21,7 +21,7 @@ struct Entries {
 }
 
 // The task that has an object alone, and 0 of a shared one.
-fn holder_of(locality: Locality) -> u16
+pub fn holder_of(locality: Locality) -> u16
     ensures { λ r. ⌜ r ≡ holderOf locality ⌝ }
 {
     match locality {
@@ -32,7 +32,7 @@ fn holder_of(locality: Locality) -> u16
 }
 
 // The share number of a shared object, and 0 of any other.
-fn share_of(locality: Locality) -> u32
+pub fn share_of(locality: Locality) -> u32
     ensures { λ r. ⌜ r ≡ shareOf locality ⌝ }
 {
     match locality {

@@ -1,4 +1,6 @@
+use mathlib.Core.Path.{_∙_}
 use Rattle.codec.specs.Store.{store}
+use Rattle.linked.specs.HalvesTurn.{moved-not, moved-on}
 use borrow.Author.Needs.{needs}
 use Rattle.linked.proofs.calls.wk_access.Statement.{statement}
 use Rattle.linked.proofs.calls.wk_access.Tie as tie
@@ -36,9 +38,6 @@ element-write-answer-4 c = search needs
 element-write-answer-5 : tie.Need-element-write-answer-5
 element-write-answer-5 c = search needs
 
-put-state-requires : tie.Need-put-state-requires
-put-state-requires c κs = search needs
-
 same-length : tie.Need-same-length
 same-length c = search needs
 
@@ -48,10 +47,28 @@ same-length-2 c = search needs
 returns : tie.Need-returns
 unfolding store
 returns c =
-    let e = c .before .before .before .before .before .before .before .before .before .before .before .before .access .ensures in
-    let b = c .before .before .before .before .before .before .before .before .before .before .before .before .before .before .before .state-of .ensures in
+    let e = c .before .before .before .before .before .before .before .before .before .before .access .ensures in
+    let b = c .before .before .before .before .before .before .before .before .before .before .before .before .before .state-of .ensures in
+    let z = rw (e .0, b) at (c .if1 .taken) in
+    (rw (e .0, b), (rw b at (e .1 .0), (rw b at (e .1 .1), (moved-not _ _ _ z, moved-not _ _ _ z))))
+
+put-state-requires : tie.Need-put-state-requires
+put-state-requires c κs = search needs
+
+same-length-3 : tie.Need-same-length-3
+same-length-3 c = search needs
+
+same-length-4 : tie.Need-same-length-4
+same-length-4 c = search needs
+
+returns-2 : tie.Need-returns-2
+unfolding store
+returns-2 c =
+    let e = c .before .before .before .before .before .before .before .before .before .before .before .before .before .before .access .ensures in
+    let b = c .before .before .before .before .before .before .before .before .before .before .before .before .before .before .before .before .before .state-of .ensures in
     let p = c .put-state .ensures in
-    (rw (e .0, b), (rw b at (e .1 .0), (rw b at (e .1 .1), (rw (e .0, b) at (p .0), rw (e .0, b) at (p .1)))))
+    let z = rw (e .0, b) at (c .before .before .before .before .if1 .left) in
+    (rw (e .0, b), (rw b at (e .1 .0), (rw b at (e .1 .1), ((rw (e .0, b) at (p .0)) ∙ moved-on _ _ _ z, (rw (e .0, b) at (p .1)) ∙ moved-on _ _ _ z))))
 
 pub wk-access-spec : {M : Type 1} → statement M
 wk-access-spec =
@@ -68,7 +85,10 @@ wk-access-spec =
     cast-answer-4
     element-write-answer-4
     element-write-answer-5
-    put-state-requires
     same-length
     same-length-2
-    returns)
+    returns
+    put-state-requires
+    same-length-3
+    same-length-4
+    returns-2)

@@ -39,8 +39,8 @@ mul-halves c = search needs
 element-write-halves : tie.Need-element-write-halves Inv-loop μ-loop
 element-write-halves c = search needs
 
-task-of-requires : tie.Need-task-of-requires Inv-loop μ-loop
-task-of-requires c κs = search needs
+holder-of-requires : tie.Need-holder-of-requires Inv-loop μ-loop
+holder-of-requires c κs = search needs
 
 add-halves-2 : tie.Need-add-halves-2 Inv-loop μ-loop
 add-halves-2 c = search needs
@@ -73,7 +73,7 @@ loop-again : tie.Need-loop-again Inv-loop μ-loop
 loop-again c =
     let l = c .before .before .before .before .before .loop in (
       omega arith,
-      rw (c .before .before .case-of .ensures, c .before .task-of .ensures, l .inv .1) (two-more _ 36 292 (l .i) _ _ (omega arith)),
+      rw (c .before .before .case-of .ensures, c .before .holder-of .ensures, l .inv .1) (two-more _ 36 292 (l .i) _ _ (omega arith)),
       rw (c .share-of .ensures, l .inv .2) (store-more _ 17 (l .i) _),
     )
 
@@ -93,7 +93,7 @@ put-records-spec =
     add-halves
     mul-halves
     element-write-halves
-    task-of-requires
+    holder-of-requires
     add-halves-2
     mul-halves-2
     element-write-halves-2
