@@ -1,6 +1,6 @@
 // Many calls in one, for the bench's clock: each answers a digest of all that its calls answered, so that none can be left out. They are
 // a library of their own, with one place that calls an access and one that calls a step, as a program has: where there are two, the
-// compiler does not put the call's code in its place, and two more copies of the state are made.
+// compiler does not put the call's code in its place, and an access copies the state once more.
 use replayer::lowest_ready;
 use replayer::ready;
 
