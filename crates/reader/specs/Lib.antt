@@ -12,8 +12,10 @@ pub mod Joined
 pub mod Laid
 pub mod Layout
 pub mod Object
-pub mod Part
+pub mod OrderingAt
+pub mod OrderingLaws
 pub mod Parse
+pub mod Part
 pub mod Positive
 pub mod Range
 pub mod Reading
@@ -22,6 +24,8 @@ pub mod Roundtrip
 pub mod Section
 pub mod SectionTurn
 pub mod Standing
+pub mod Starting
+pub mod StartingLaws
 pub mod Strict
 pub mod SurveyTurn
 pub mod Turn

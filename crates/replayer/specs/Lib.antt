@@ -16,7 +16,6 @@ pub mod NextTurn
 pub mod OpenLaws
 pub mod OpenOf
 pub mod OpenTurn
-pub mod OrderingAt
 pub mod ReadyLaws
 pub mod ReadyOf
 pub mod Run

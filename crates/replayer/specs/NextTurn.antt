@@ -18,6 +18,8 @@ use Rattle.reader.specs.Answers.{found, found-refused}
 use Rattle.reader.specs.Bytes.{entryLength}
 use Rattle.reader.specs.Entry.{entry-ended}
 use Rattle.reader.specs.EntryCase.{EntryCase, More, last, more, entry-case, found-entry}
+use Rattle.reader.specs.OrderingAt.{orderingAt}
+use Rattle.reader.specs.OrderingLaws.{more-at}
 use Rattle.reader.specs.Part.{part, part-drop, part-length}
 use Rattle.reader.specs.Reading.{Reading, refused, read, stop}
 use Rattle.reader.specs.Recording.{Entry}
@@ -28,7 +30,6 @@ use Rattle.replayer.specs.Dones.{donesOf, dones-at}
 use Rattle.replayer.specs.Look.{groupAt, Looks}
 use Rattle.replayer.specs.Met.{allMet}
 use Rattle.replayer.specs.Next.{judged, isOpen}
-use Rattle.replayer.specs.OrderingAt.{positionAt, ordering-at}
 use Rattle.replayer.specs.Run.{doneOf}
 
 -- each task has done so many accesses or more
@@ -137,12 +138,10 @@ module _ (m : Limits) (b dones : List ℕ) (from end place at : ℕ) (w : Ahead 
       }
 
   -- the access is further on: an ordering stands here
-  pub ahead-turn : place < at → Passing m b dones from end place at (positionAt b place)
+  pub ahead-turn : place < at → Passing m b dones from end place at (orderingAt b place)
   ahead-turn h = elim ahead-case [
     | last x ↦ absurd (omega (arith, w .stands, ap length (x .none)))
-    | more x ↦
-        let e : x .first ≡ positionAt b place = ordering-at inBody b place end (x .first) (x .here) (omega (arith, x .within, part-length place end b (w .within))) in
-        rw (← e) (passing x)
+    | more x ↦ rw (← more-at m b place end (w .entry) (w .within) x) (passing x)
   ]
 
   -- all orderings are met

@@ -7,29 +7,20 @@ use native.Mathlib.Omega.{arith}
 use lib.ListN.{length, getD, take, drop, set}
 use lib.Seq.{take-suc-set, take-all}
 use borrow.Author.Tests.{eq-eqb, ne-eqb}
-use Rattle.codec.specs.Field.{field4}
-use Rattle.codec.specs.Kind.{headLength}
 use Rattle.reader.specs.declared.Span.{Span}
 use Rattle.reader.specs.declared.survey.Layout.{Layout}
 use Rattle.reader.specs.Calls.{noSpan}
-use Rattle.reader.specs.Laid.{Laid, laid-read, laid-refused, values-next, values-end, Valued, parse-valued}
+use Rattle.reader.specs.Laid.{Laid, laid-read, laid-refused, Valued, parse-valued}
 use Rattle.reader.specs.Layout.{layoutOf}
-use Rattle.reader.specs.Parse.{Parsed, valuesOf, parse}
+use Rattle.reader.specs.Parse.{Parsed, parse}
 use Rattle.reader.specs.Positive.{parse-positive}
 use Rattle.reader.specs.Reading.{Reading, refused, read}
 use Rattle.reader.specs.Standing.{Standing, parse-stands}
+use Rattle.reader.specs.Starting.{startingIn}
+use Rattle.reader.specs.StartingLaws.{starting-there}
 use Rattle.codec.specs.Number.{entries as wrongLength}
 use Rattle.replayer.specs.Run.{blankTasks}
 use Rattle.replayer.specs.OpenOf.{startOf, startsOf, refusedOpen, onParse, openOf}
-
--- the memory: what is set and what is still to come are the values
-pub values-turn : (n i place : ℕ) (b memory : List ℕ) → i < n → length memory ≡ n
-    → take i memory ++ valuesOf (n - i) (drop place b) ≡ take (i + 1) (set memory i (field4 b (place + 1))) ++ valuesOf (n - (i + 1)) (drop (place + 5) b)
-values-turn n i place b memory h l =
-    rw (values-next n i place b h, add-one i, take-suc-set memory i (field4 b (place + 1)) (omega arith), append-assoc)
-
-pub values-done : (n i : ℕ) (b memory : List ℕ) → n ≤ i → length memory ≡ n → take i memory ++ valuesOf (n - i) b ≡ memory
-values-done n i b memory h l = rw (values-end n i b h, append-nil) (take-all i memory (omega arith))
 
 -- the tasks
 pub starts-none : (spans : List Span) → startsOf spans 0 ≡ blankTasks
@@ -52,9 +43,8 @@ pub record Refusing (b memory : List ℕ) (number offset : ℕ) : Type 0 where
 
 pub record Opening (b memory : List ℕ) (l : Layout) : Type 0 where
   pub tasks : l .tasks ≤ 16
-  pub within : headLength (length memory) ≤ length b
   pub answer : record { number = 0; offset = 0; run = record { tasks = l .tasks; objects = l .objects; runs = startsOf (l .spans) (l .tasks) } } ≡ openOf b memory .answer
-  pub values : valuesOf (length memory) (drop 8 b) ≡ openOf b memory .memory
+  pub values : startingIn b memory ≡ openOf b memory .memory
 
 module _ (b memory : List ℕ) (l : Layout) (e : l ≡ layoutOf (parse b)) where
   pub open-bytes : (l .number ≡ 0 → ⊥) → Refusing b memory (l .number) (l .offset)
@@ -99,7 +89,6 @@ module _ (b memory : List ℕ) (l : Layout) (e : l ≡ layoutOf (parse b)) where
           let d = eq-eqb (length memory) (length (p .recording .owners)) n in
           record {
             tasks = rw (w .tasks) (s .few-tasks);
-            within = rw n (v .within);
             answer = rw (q, d, w .tasks, w .objects, starts-same (l .spans) (p .spans) (p .recording .tasks) (w .span));
-            values = rw (q, d, n) (sym (v .values));
+            values = rw (starting-there b memory (rw n (v .within)), q, d, n) (sym (v .values));
           }

@@ -9,11 +9,13 @@ ghost use Rattle.replayer.specs.NextTurn.{InGroup, Scanned};
 ghost use Rattle.replayer.specs.Next.{refusalOf, nextOf};
 use crate::Run;
 use codec::Op;
-use codec::field::get16;
+use codec::kind::ORDERING;
+use codec::kind::length_of;
 use reader::Checked;
 use reader::Limits;
 use reader::entry::Found;
 use reader::entry::entry_at;
+use reader::entry::ordering_at;
 
 // An access that may be done now and the place behind it; one that an ordering holds; or records that do not read.
 pub enum Next {
@@ -47,12 +49,12 @@ pub(crate) fn first_unmet(bytes: &[u8], from: usize, at: usize, dones: &[usize; 
 {
     let mut place = from;
     while place < at {
-        let source = get16(bytes, place + 4) as usize;
-        let number = get16(bytes, place + 6) as usize;
-        if dones[source] < number {
+        let p = ordering_at(bytes, place);
+        let source = p.task as usize;
+        if dones[source] < p.number as usize {
             return place;
         }
-        place += 8;
+        place += length_of(ORDERING) as usize;
     }
     place
 }

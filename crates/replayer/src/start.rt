@@ -1,30 +1,15 @@
 // What opening sets: the memory to the starting values, each task to the start of its body.
 ghost use mathlib.Core.Path.{_≡_};
 ghost use Prim.Native.Nat.{_≤_};
-ghost use lib.ListN.{length, drop};
-ghost use Rattle.codec.specs.Kind.{headLength};
-ghost use Rattle.reader.specs.Parse.{valuesOf};
 ghost use Rattle.replayer.specs.OpenOf.{startsOf, refusedOpen, openOf};
 ghost use Rattle.replayer.specs.OpenTurn.{Opening};
 ghost use Rattle.replayer.specs.Run.{blankTasks};
 use crate::Opened;
 use crate::Run;
 use crate::TaskRun;
-use codec::field::get32;
 use reader::Span;
+use reader::head::set_starting;
 use reader::survey::Layout;
-
-// A value for each entry, from the head: it stands behind the owner's byte.
-pub(crate) fn set_values(bytes: &[u8], memory: &mut [u32])
-    requires { ⌜ headLength (length (now memory)) ≤ length (now bytes) ⌝ }
-    ensures { λ r. ⌜ now (memory .exit) ≡ valuesOf (length (now (memory .entry))) (drop 8 (now (bytes .entry))) ⌝ }
-{
-    let mut place: usize = 8;
-    for i in 0..memory.len() {
-        memory[i] = get32(bytes, place + 1);
-        place += 5;
-    }
-}
 
 fn blank_tasks() -> [TaskRun; 16]
     ensures { λ r. ⌜ r ≡ blankTasks ⌝ }
@@ -63,7 +48,7 @@ pub(crate) fn begin(bytes: &[u8], l: Layout, memory: &mut [u32]) -> Run
     ensures { λ r. ⌜ r ≡ openOf (now (bytes .entry)) (now (memory .entry)) .answer .run ⌝ }
     ensures { λ r. ⌜ now (memory .exit) ≡ openOf (now (bytes .entry)) (now (memory .entry)) .memory ⌝ }
 {
-    set_values(bytes, memory);
+    set_starting(bytes, memory);
     let spans = l.spans;
     let runs = starts(spans, l.tasks);
     Run {

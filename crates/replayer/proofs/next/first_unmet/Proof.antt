@@ -4,7 +4,7 @@ use denote.Ref.{now}
 use borrow.Author.Needs.{needs}
 use Rattle.reader.specs.declared.Limits.{Limits}
 use Rattle.replayer.specs.NextTurn.{Ahead, Passing, ahead-turn}
-use Rattle.replayer.specs.OrderingAt.{positionAt}
+use Rattle.reader.specs.OrderingAt.{orderingAt}
 use Rattle.replayer.proofs.next.first_unmet.Statement.{statement}
 use Rattle.replayer.proofs.next.first_unmet.Tie as tie
 
@@ -18,55 +18,52 @@ abbrev μ-loop : tie.MeasureT-loop
 turn : (c : tie.In-loop Inv-loop μ-loop) →
     let a = c .before .before .before .args in
     (m : Limits) (start end : ℕ) → Ahead m (now (a .bytes)) (now (a .dones)) start end (a .from) (a .at)
-    → Passing m (now (a .bytes)) (now (a .dones)) start end (c .before .loop .place) (a .at) (positionAt (now (a .bytes)) (c .before .loop .place))
+    → Passing m (now (a .bytes)) (now (a .dones)) start end (c .before .loop .place) (a .at) (orderingAt (now (a .bytes)) (c .before .loop .place))
 turn c m start end w = ahead-turn _ _ _ _ _ _ _ (c .before .loop .inv m start end w) (c .loop-test .taken)
 
 passing : (c : tie.In-loop Inv-loop μ-loop) →
     let s = c .before .before .before in
-    Passing (s .pre .limits) (now (s .args .bytes)) (now (s .args .dones)) (s .pre .from) (s .pre .end) (c .before .loop .place) (s .args .at) (positionAt (now (s .args .bytes)) (c .before .loop .place))
+    Passing (s .pre .limits) (now (s .args .bytes)) (now (s .args .dones)) (s .pre .from) (s .pre .end) (c .before .loop .place) (s .args .at) (orderingAt (now (s .args .bytes)) (c .before .loop .place))
 passing c = let p = c .before .before .before .pre in turn c (p .limits) (p .from) (p .end) (p .ahead)
 
 loop-holds : tie.Need-loop-holds Inv-loop μ-loop
 loop-holds c = λ m start end w. w
 
-add-get16 : tie.Need-add-get16 Inv-loop μ-loop
-add-get16 c = omega (arith, passing c .room)
-
-get16-requires : tie.Need-get16-requires Inv-loop μ-loop
-get16-requires c κs = omega (arith, passing c .room)
+ordering-at-requires : tie.Need-ordering-at-requires Inv-loop μ-loop
+ordering-at-requires c κs = search needs
 
 cast-source : tie.Need-cast-source Inv-loop μ-loop
 cast-source c = search needs
 
-add-get16-2 : tie.Need-add-get16-2 Inv-loop μ-loop
-add-get16-2 c = omega (arith, passing (c .before) .room)
-
-get16-requires-2 : tie.Need-get16-requires-2 Inv-loop μ-loop
-get16-requires-2 c κs = omega (arith, passing (c .before) .room)
-
-cast-number : tie.Need-cast-number Inv-loop μ-loop
-cast-number c = search needs
-
 mul-if1 : tie.Need-mul-if1 Inv-loop μ-loop
-mul-if1 c = omega (arith, passing (c .before .before) .below, c .before .get16 .ensures)
+mul-if1 c = omega (arith, rw (← c .before .ordering-at .ensures) at (passing (c .before .before) .below))
 
 element-copy-out-if1 : tie.Need-element-copy-out-if1 Inv-loop μ-loop
-element-copy-out-if1 c = omega (arith, passing (c .before .before) .below, c .before .get16 .ensures)
+element-copy-out-if1 c = rw (← c .before .ordering-at .ensures) at (passing (c .before .before) .below)
+
+cast-if1 : tie.Need-cast-if1 Inv-loop μ-loop
+cast-if1 c = search needs
 
 returns : tie.Need-returns Inv-loop μ-loop
 returns c = λ m start end w. record {
-  ahead = c .before .before .before .before .before .loop .inv m start end w;
-  held = λ h. turn (c .before .before .before .before) m start end w .unmet (rw (c .before .before .before .get16 .ensures, c .before .before .get162 .ensures) at (c .if1 .taken));
+  ahead = c .before .before .before .before .before .before .loop .inv m start end w;
+  held = λ h. turn (c .before .before .before .before .before) m start end w .unmet (rw (c .before .before .before .before .ordering-at .ensures) at (c .if1 .taken));
 }
 
+length-of-requires : tie.Need-length-of-requires Inv-loop μ-loop
+length-of-requires c κs = search needs
+
+cast-place : tie.Need-cast-place Inv-loop μ-loop
+cast-place c = omega (arith, c .length-of .ensures)
+
 add-place : tie.Need-add-place Inv-loop μ-loop
-add-place c = omega (arith, passing (c .before .before .before .before) .room)
+add-place c = omega (arith, passing (c .before .before .before .before .before .before) .room, c .length-of .ensures)
 
 loop-less : tie.Need-loop-less Inv-loop μ-loop
-loop-less c = omega (arith, c .before .before .before .before .loop-test .taken)
+loop-less c = omega (arith, c .before .before .before .before .before .before .loop-test .taken, c .length-of .ensures)
 
 loop-again : tie.Need-loop-again Inv-loop μ-loop
-loop-again c = λ m start end w. turn (c .before .before .before .before) m start end w .met (rw (c .before .before .before .get16 .ensures, c .before .before .get162 .ensures) at (c .if1 .left))
+loop-again c = rw (c .length-of .ensures) (λ m start end w. turn (c .before .before .before .before .before .before) m start end w .met (rw (c .before .before .before .before .before .ordering-at .ensures) at (c .before .if1 .left)))
 
 returns-2 : tie.Need-returns-2 Inv-loop μ-loop
 returns-2 c = λ m start end w. record { ahead = c .before .loop .inv m start end w; held = λ h. absurd (omega (arith, h, c .loop-test .left)) }
@@ -78,15 +75,14 @@ first-unmet-spec =
     Inv-loop
     μ-loop
     loop-holds
-    add-get16
-    get16-requires
+    ordering-at-requires
     cast-source
-    add-get16-2
-    get16-requires-2
-    cast-number
     mul-if1
     element-copy-out-if1
+    cast-if1
     returns
+    length-of-requires
+    cast-place
     add-place
     loop-less
     loop-again
