@@ -6,12 +6,14 @@ use Prim.Native.Nat.{ℕ, _<_}
 use lib.Dec.{eqb}
 use lib.ListN.{getD, set, take}
 use Rattle.reader.specs.Range.{AllUnder}
+use Rattle.reader.specs.Recording.{Recording}
 use Rattle.history.specs.Entry.{Act, Entry}
 use Rattle.history.specs.History.{History}
 use Rattle.tracker.specs.Orderings.{writtenOf}
 use Rattle.recorder.specs.AccessOf.{isWrite}
 use Rattle.recorder.specs.OpenOf.{OpenOutcome, openOf}
 use Rattle.recorder.specs.WholeRun.{Call, Box, outcome, called, calledAll, packed}
+use Rattle.fidelity.specs.Filed.{bodiesFrom}
 
 -- the arguments of an opening; the starting values fit their type
 pub record Opening : Type 0 where
@@ -104,3 +106,7 @@ answersFrom b (c ∷ calls) = outcome b c .answer .value ∷ answersFrom (called
 abbrev pub recordingOf : Opening → List Asked → (ℕ → List ℕ) → List ℕ
 recordingOf o asked outs =
     take (openedBy o .answer .written) (openedBy o .out) ++ packed (lastBox o asked .state) (lastBox o asked .logs) outs 0 (o .tasks)
+
+-- the recording as a value: the opening's T, owners and starting values, and each task's accepted accesses
+abbrev pub recordingBy : Opening → List Asked → Recording
+recordingBy o asked = record { tasks = o .tasks; owners = o .owners; values = o .starts; bodies = bodiesFrom (recorded o asked) 0 (o .tasks) }

@@ -11,21 +11,16 @@ use Rattle.reader.specs.Bytes.{bytesOf}
 use Rattle.reader.specs.Parse.{Parsed, parse}
 use Rattle.reader.specs.Range.{HeadIn, InRange}
 use Rattle.reader.specs.Reading.{read}
-use Rattle.reader.specs.Recording.{Recording}
 use Rattle.reader.specs.Roundtrip.{parse-back, spansOf}
 use Rattle.history.specs.Memory.{reference}
 use Rattle.tracker.specs.Tracks.{tracks-sound, tracks-tasks, tracks-memory}
 use Rattle.recorder.specs.SectionOf.{sectionOf}
-use Rattle.fidelity.specs.Box.{Opening, openedBy, Asked, lastBox, recorded, recordingOf}
+use Rattle.fidelity.specs.Box.{Opening, openedBy, Asked, lastBox, recorded, recordingOf, recordingBy}
 use Rattle.fidelity.specs.FirstBox.{startOf, opening-facts, owners-under, opening-is, follows-last}
 use Rattle.fidelity.specs.Follows.{Follows}
 use Rattle.fidelity.specs.Matches.{Matches}
-use Rattle.fidelity.specs.Packed.{bodiesFrom, bodies-length, bodies-at, section-accepted, bodies-in, packed-is}
+use Rattle.fidelity.specs.Packed.{bodies-length, bodies-at, section-accepted, bodies-in, packed-is}
 use Rattle.fidelity.specs.Turn.{store-front}
-
--- the recording of the accepted accesses: the opening's arguments, and each task's entries
-abbrev pub recordingBy : Opening → List Asked → Recording
-recordingBy o asked = record { tasks = o .tasks; owners = o .owners; values = o .starts; bodies = bodiesFrom (recorded o asked) 0 (o .tasks) }
 
 abbrev pub parsedBy : Opening → List Asked → Parsed
 parsedBy o asked = record { recording = recordingBy o asked; spans = spansOf (recordingBy o asked) }

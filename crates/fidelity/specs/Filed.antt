@@ -1,8 +1,9 @@
--- A history's entries as they stand in a recording: a task's accesses with their orderings, oldest first, without the values read.
+-- A history's entries as they stand in a recording (document 01, "Records"): per task its accesses with their orderings, oldest first,
+-- without the values read.
 use mathlib.Core.Bool.{cond}
 use mathlib.Core.Path.{_≡_, sym, _∙_}
 use mathlib.Core.List.{List, [], _∷_, _++_}
-use Prim.Native.Nat.{ℕ}
+use Prim.Native.Nat.{ℕ, zero, suc}
 use native.Mathlib.Omega.{arith}
 use native.Mathlib.Decide.{ℕ-discrete}
 use borrow.Author.Tests.{eq-eqb, ne-eqb}
@@ -26,6 +27,11 @@ filed e = record { orderings = e .orderings; op = filedOp (e .act) }
 unfoldable pub filedOf : ℕ → History → List FileEntry
 filedOf t [] = []
 filedOf t (e ∷ g) = cond (eqb (e .task) t) (filedOf t g ++ (filed e ∷ [])) (filedOf t g)
+
+-- the bodies of k tasks from t upward
+unfoldable pub bodiesFrom : History → ℕ → ℕ → List (List FileEntry)
+bodiesFrom h t zero = []
+bodiesFrom h t (suc k) = filedOf t h ∷ bodiesFrom h (suc t) k
 
 -- as many as the task has made
 pub filed-count : (t : ℕ) (h : History) → length (filedOf t h) ≡ count t h

@@ -15,7 +15,6 @@ use Rattle.reader.specs.Bytes.{bodyBytes, sectionsBytes}
 use Rattle.reader.specs.Joined.{reads-walk}
 use Rattle.reader.specs.Range.{BodyIn, BodiesIn}
 use Rattle.reader.specs.Reading.{stop}
-use Rattle.reader.specs.Recording.{Entry as FileEntry}
 use Rattle.reader.specs.Roundtrip.{body-back}
 use Rattle.history.specs.History.{History}
 use Rattle.tracker.specs.declared.State.{State}
@@ -25,14 +24,9 @@ use Rattle.tracker.specs.Tracks.{tracks-done, tracks-invariant}
 use Rattle.recorder.specs.SectionOf.{limitsOf, logChecked, sectionChecked, sectionBytes, sectionOf}
 use Rattle.recorder.specs.SectionTurn.{section-facts}
 use Rattle.recorder.specs.WholeRun.{Box, packed}
-use Rattle.fidelity.specs.Filed.{filedOf, filed-count}
+use Rattle.fidelity.specs.Filed.{filedOf, bodiesFrom, filed-count}
 use Rattle.fidelity.specs.Follows.{limits, Follows}
 use Rattle.fidelity.specs.Turn.{store-front}
-
--- the bodies of k tasks from t upward
-unfoldable pub bodiesFrom : History → ℕ → ℕ → List (List FileEntry)
-bodiesFrom h t zero = []
-bodiesFrom h t (suc k) = filedOf t h ∷ bodiesFrom h (suc t) k
 
 pub bodies-length : (h : History) (t k : ℕ) → length (bodiesFrom h t k) ≡ k
 unfolding bodiesFrom

@@ -7,21 +7,24 @@ use mathlib.Core.Path.{_≡_, refl, sym, ap, _∙_, fun-ext}
 use Prim.Native.Nat.{ℕ, zero, suc, _+_, _≤_, _<_}
 use native.Mathlib.Omega.{arith}
 use native.Mathlib.Decide.{decLt}
+use borrow.Author.Tests.{eqb-false}
 use lib.ListN.{length, getD}
 use Rattle.codec.specs.Decide.{never, passes, fails, split}
 use Rattle.reader.specs.Parse.{Parsed}
 use Rattle.history.specs.Entry.{Entry}
 use Rattle.history.specs.History.{History}
 use Rattle.history.specs.Access.{Access, access-of}
-use Rattle.history.specs.Memory.{reference}
+use Rattle.history.specs.Memory.{reference, memoryOf}
 use Rattle.history.specs.Replay.{State, Reply, fresh, shown, tally, recordedOrder}
 use Rattle.history.specs.Ready.{Ready}
 use Rattle.history.specs.Faithful.{after, Faithful, faithful}
+use Rattle.replayer.specs.declared.Stepped.{Stepped}
 use Rattle.replayer.specs.OpenOf.{openOf}
 use Rattle.replayer.specs.ReadyLaws.{ReadySet, ready-word}
 use Rattle.replayer.specs.ReadyOf.{isReady as isReadyBy, readyOf}
+use Rattle.replayer.specs.StepLaws.{refused-stays}
 use Rattle.replayer.specs.Word.{wordOf, hasBit}
-use Rattle.fidelity.specs.Bench.{Bench, benchOf, answerOf, steppedAll, takes as takesBy, tally as tallyBy, tallyOf as tallyOfBy, AllTaken as AllTakenBy}
+use Rattle.fidelity.specs.Bench.{Bench, benchOf, answerOf, stepped, steppedAll, takes as takesBy, tally as tallyBy, tallyOf as tallyOfBy, AllTaken as AllTakenBy}
 use Rattle.fidelity.specs.Matches.{Matches}
 use Rattle.fidelity.specs.Sim.{Sim, sim-ready}
 use Rattle.fidelity.specs.SimStep.{Alike, sim-step}
@@ -42,6 +45,12 @@ none-set f i (suc n) e = rw (e i (omega arith), none-set f (suc i) n (λ t l. e 
 
 act-of : {r s : Reply} → some r ≡ some s → r .act ≡ s .act
 act-of q = cc
+
+-- a step that is not taken leaves all as it was
+pub refused-changes-nothing : (bytes : List ℕ) (b : Bench) (t : ℕ) → takesBy bytes b t ≡ false → stepped bytes b t ≡ b
+refused-changes-nothing bytes b t q =
+    let w = refused-stays (b .run) bytes (b .memory) t (eqb-false _ _ q) in
+    rw (w .after, ap (λ (s : Stepped). s .run) (w .answer))
 
 module _ (start : ℕ → ℕ) (h : History) (bytes : List ℕ) (p : Parsed) (m : Matches start h bytes p) (memory : List ℕ) (z : openOf bytes memory .answer .number ≡ 0) where
   abbrev tasks : ℕ
@@ -134,6 +143,10 @@ module _ (start : ℕ → ℕ) (h : History) (bytes : List ℕ) (p : Parsed) (m 
 
   pub end-memory : (steps : List ℕ) → tallyBy bytes first steps ≡ length h → (c : ℕ) → c < objects → getD (steppedAll bytes first steps .memory) c 0 ≡ reference start h c
   end-memory steps q c l = sim steps .memory c l ∙ ideal .end-memory steps (sym (counts-same steps) ∙ q) c
+
+  -- memory after any steps: the starting values with the writes of the accesses done
+  pub memory-of-writes : (steps : List ℕ) (c : ℕ) → c < objects → getD (steppedAll bytes first steps .memory) c 0 ≡ memoryOf start (λ t. tallyOfBy t bytes first steps) h c
+  memory-of-writes steps c l = rw (done-same steps) (sim steps .memory c l ∙ ideal .memory-of-writes steps c)
 
   pub memory-entries : (steps : List ℕ) → length (steppedAll bytes first steps .memory) ≡ objects
   memory-entries steps = sim steps .entries

@@ -1,18 +1,19 @@
 -- DEMAND 3, the claim about whole runs (document 01, "Whole runs"), as one statement over two lists: any calls of `access` from an
 -- accepted opening, and any steps from an accepted replay opening of their recording. No proof is in this file.
-use mathlib.Core.Bool.{true}
+use mathlib.Core.Bool.{true, false}
 use mathlib.Core.List.{List}
 use mathlib.Core.Logic.{_↔_}
 use mathlib.Core.Path.{_≡_}
 use Prim.Native.Nat.{ℕ, suc, _≤_, _<_}
-use lib.ListN.{length}
+use lib.ListN.{length, getD}
 use Rattle.codec.specs.Kind.{readKind, writeKind}
 use Rattle.reader.specs.Calls.{checkedOf}
-use Rattle.reader.specs.Parse.{parse}
-use Rattle.reader.specs.Reading.{stop}
+use Rattle.reader.specs.Parse.{Parsed, parse}
+use Rattle.reader.specs.Reading.{read as reads, stop}
 use Rattle.history.specs.Entry.{Act, read, write, acquire, Entry}
 use Rattle.history.specs.History.{History}
 use Rattle.history.specs.Access.{Access}
+use Rattle.history.specs.Memory.{memoryOf}
 use Rattle.history.specs.Ready.{Ready}
 use Rattle.history.specs.Replay.{recordedOrder}
 use Rattle.recorder.specs.SectionOf.{sectionOf}
@@ -20,8 +21,8 @@ use Rattle.replayer.specs.declared.Stepped.{Stepped}
 use Rattle.replayer.specs.OpenOf.{openOf}
 use Rattle.replayer.specs.ReadyOf.{readyOf}
 use Rattle.replayer.specs.Word.{hasBit}
-use Rattle.fidelity.specs.Box.{Opening, openedBy, Asked, callsOf, firstBox, lastBox, recorded, fed, referenceMemory, referenceValues, answersFrom, recordingOf}
-use Rattle.fidelity.specs.Bench.{Bench, benchOf, answerOf, steppedAll, takes, tally, tallyOf, AllTaken}
+use Rattle.fidelity.specs.Box.{Opening, openedBy, Asked, callsOf, firstBox, lastBox, recorded, fed, referenceMemory, referenceValues, answersFrom, recordingOf, recordingBy}
+use Rattle.fidelity.specs.Bench.{Bench, benchOf, answerOf, stepped, steppedAll, takes, tally, tallyOf, AllTaken}
 
 -- what is assumed, and nothing of the calls or the steps: the opening, the sections and the replay opening answered 0
 pub record Accepted (o : Opening) (asked : List Asked) (outs : ℕ → List ℕ) (memory : List ℕ) : Type 0 where
@@ -54,10 +55,14 @@ module _ (o : Opening) (asked : List Asked) (outs : ℕ → List ℕ) (memory : 
     -- 1. Each access answers the reference memory's value, and the recorder's memory ends equal to it.
     pub answers-reference : answersFrom (firstBox o) (callsOf asked) ≡ referenceValues (o .starts) (fed o asked)
     pub memory-reference : lastBox o asked .memory ≡ referenceMemory (o .starts) (fed o asked)
-    -- 2. The reader takes the recording.
+    -- 2. The reader takes the recording, and reads it back as what was recorded: T, the owners, the starting values, and each task's
+    -- accepted accesses with their orderings.
     pub reader-takes : checkedOf (parse bytes) ≡ stop 0 0
+    pub reads-back : (p : Parsed) × (parse bytes ≡ reads p) × (p .recording ≡ recordingBy o asked)
     -- 3. A step is taken exactly when its task is ready: it has accesses left, and every ordering before its next one is met.
+    -- A step that is not taken leaves run and memory as they were.
     pub taken-when-ready : (steps : List ℕ) (t : ℕ) → (takes bytes (after steps) t ≡ true) ↔ Ready history (done steps) t
+    pub refused-changes-nothing : (steps : List ℕ) (t : ℕ) → takes bytes (after steps) t ≡ false → stepped bytes (after steps) t ≡ after steps
     -- 4. A task's k-th taken step answers access number k and the sort, object and value of its accepted access k.
     pub answers-recorded : (steps : List ℕ) (t : ℕ) → takes bytes (after steps) t ≡ true
         → (e : Entry) × Access history t (suc (done steps t)) e
@@ -65,9 +70,13 @@ module _ (o : Opening) (asked : List Asked) (outs : ℕ → List ℕ) (memory : 
     -- 5. At first and after each step the ready word has exactly the ready tasks.
     pub word-sound : (steps : List ℕ) → readyOf (after steps .run) bytes .number ≡ 0
     pub word-ready : (steps : List ℕ) (t : ℕ) → (hasBit (readyOf (after steps .run) bytes .word) t ≡ true) ↔ Ready history (done steps) t
-    -- 6. No more steps are taken than accesses were accepted; the word is 0 exactly when as many; memory is then the box's.
+    -- 6. At first and after each step memory has, cell by cell, the starting value or the latest write among the accesses done.
+    pub memory-entries : (steps : List ℕ) → length (after steps .memory) ≡ o .objects
+    pub memory-of-writes : (steps : List ℕ) (c : ℕ) → c < o .objects
+        → getD (after steps .memory) c 0 ≡ memoryOf (λ x. getD (o .starts) x 0) (done steps) history c
+    -- 7. No more steps are taken than accesses were accepted; the word is 0 exactly when as many; memory is then the box's.
     pub never-more : (steps : List ℕ) → tally bytes (benchOf bytes memory) steps ≤ length history
     pub stops-at-end : (steps : List ℕ) → (readyOf (after steps .run) bytes .word ≡ 0) ↔ (tally bytes (benchOf bytes memory) steps ≡ length history)
     pub end-memory : (steps : List ℕ) → tally bytes (benchOf bytes memory) steps ≡ length history → after steps .memory ≡ lastBox o asked .memory
-    -- 7. The recorded order, the accepted accesses' tasks in call order, is taken whole.
+    -- 8. The recorded order, the accepted accesses' tasks in call order, is taken whole.
     pub recorded-order : AllTaken bytes (benchOf bytes memory) (recordedOrder history)

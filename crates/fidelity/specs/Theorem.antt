@@ -1,7 +1,7 @@
 -- DEMAND 3, proved: whatever calls were made and whatever steps are asked for, the replay is faithful. And what the statement
 -- assumes can be had: with output and memory enough no section and no replay opening is turned away.
 use mathlib.Core.List.{List}
-use mathlib.Core.Path.{_≡_, sym, _∙_}
+use mathlib.Core.Path.{_≡_, refl, sym, _∙_}
 use Prim.Native.Nat.{ℕ, _+_, _≤_, _<_}
 use lib.ListN.{length}
 use lib.Seq.{ext-getD}
@@ -13,7 +13,7 @@ use Rattle.fidelity.specs.BoxMatches.{parsedBy, owner-each, box-memory, 
 use Rattle.fidelity.specs.BoxReference.{answers-reference, memory-reference}
 use Rattle.fidelity.specs.FirstBox.{startOf}
 use Rattle.fidelity.specs.Matches.{Matches}
-use Rattle.fidelity.specs.Replayed.{taken-when-ready, answers-recorded, word-sound, word-ready, never-more, stops-at-end, end-memory, memory-entries, recorded-order}
+use Rattle.fidelity.specs.Replayed.{taken-when-ready, refused-changes-nothing, answers-recorded, word-sound, word-ready, memory-of-writes, never-more, stops-at-end, end-memory, memory-entries, recorded-order}
 use Rattle.fidelity.specs.Statement.{Accepted, after, Faithful}
 
 module _ (o : Opening) (asked : List Asked) (outs : ℕ → List ℕ) (memory : List ℕ) (a : Accepted o asked outs memory) where
@@ -29,16 +29,23 @@ module _ (o : Opening) (asked : List Asked) (outs : ℕ → List ℕ) (memory : 
       (λ c l. end-memory (startOf o) (recorded o asked) (recordingOf o asked outs) (parsedBy o asked) matches memory (a .replayed) steps e c (rw n at l)
       ∙ sym (box-memory o (a .opened) asked c))
 
+  entries : (steps : List ℕ) → length (after o asked outs memory steps .memory) ≡ o .objects
+  entries steps = memory-entries (startOf o) (recorded o asked) (recordingOf o asked outs) (parsedBy o asked) matches memory (a .replayed) steps ∙ owner-each o (a .opened)
+
   pub demand-3 : Faithful o asked outs memory
   unfolding checkedOf
   demand-3 = record {
     answers-reference = answers-reference o (a .opened) asked;
     memory-reference = memory-reference o (a .opened) asked;
     reader-takes = rw (recording-parsed o (a .opened) asked outs (a .packed));
+    reads-back = (parsedBy o asked, recording-parsed o (a .opened) asked outs (a .packed), refl);
     taken-when-ready = taken-when-ready (startOf o) (recorded o asked) (recordingOf o asked outs) (parsedBy o asked) matches memory (a .replayed);
+    refused-changes-nothing = λ steps t. refused-changes-nothing (recordingOf o asked outs) (after o asked outs memory steps) t;
     answers-recorded = answers-recorded (startOf o) (recorded o asked) (recordingOf o asked outs) (parsedBy o asked) matches memory (a .replayed);
     word-sound = word-sound (startOf o) (recorded o asked) (recordingOf o asked outs) (parsedBy o asked) matches memory (a .replayed);
     word-ready = word-ready (startOf o) (recorded o asked) (recordingOf o asked outs) (parsedBy o asked) matches memory (a .replayed);
+    memory-entries = entries;
+    memory-of-writes = λ steps c l. memory-of-writes (startOf o) (recorded o asked) (recordingOf o asked outs) (parsedBy o asked) matches memory (a .replayed) steps c (rw (owner-each o (a .opened)) l);
     never-more = never-more (startOf o) (recorded o asked) (recordingOf o asked outs) (parsedBy o asked) matches memory (a .replayed);
     stops-at-end = stops-at-end (startOf o) (recorded o asked) (recordingOf o asked outs) (parsedBy o asked) matches memory (a .replayed);
     end-memory = ends-equal;
