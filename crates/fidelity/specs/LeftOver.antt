@@ -1,7 +1,7 @@
 -- What is left of a task's accesses once it has done some of them: in the recording's form, oldest first.
 use mathlib.Core.Bool.{cond}
 use mathlib.Core.List.{List, [], _∷_, _++_}
-use mathlib.Core.Option.{some, none}
+use mathlib.Core.Option.{some}
 use mathlib.Core.Path.{_≡_, refl}
 use Prim.Native.Nat.{ℕ, suc, _≤_}
 use native.Mathlib.Omega.{arith}
@@ -13,7 +13,7 @@ use Rattle.reader.specs.Recording.{Entry as FileEntry}
 use Rattle.history.specs.Entry.{Entry}
 use Rattle.history.specs.History.{History, count, count-own, count-other, At, here, there, at-lt}
 use Rattle.history.specs.Replay.{next}
-use Rattle.history.specs.Ready.{next-access, next-none}
+use Rattle.history.specs.Ready.{next-access}
 use Rattle.fidelity.specs.Filed.{filed, filedOf}
 
 -- task t's accesses past the first n
@@ -37,9 +37,6 @@ left-end t n (e ∷ g) q = elim (ℕ-discrete (e .task) t) [
   | yes p ↦ let c = count-own t e g p in rw (eq-eqb (e .task) t p, lt-leb n (count t g) (omega arith))
   | no p ↦ rw (ne-eqb (e .task) t p) (left-end t n g (omega (arith, count-other t e g p)))
 ]
-
-pub left-none : (t n : ℕ) (h : History) → next t n h ≡ none → leftOf t n h ≡ []
-left-none t n h p = left-end t n h (next-none t n h p)
 
 left-at : (t n : ℕ) {h : History} {e : Entry} {g : History} → At e g h → e .task ≡ t → count t g ≡ n → leftOf t n h ≡ filed e ∷ leftOf t (suc n) h
 unfolding leftOf

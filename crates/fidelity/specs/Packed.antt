@@ -1,6 +1,6 @@
 -- The sections of the box's logs: each log is a body in range, so an output with room is not turned away; and what accepted sections
 -- wrote, joined, is the sections of the tasks' bodies.
-use mathlib.Core.List.{List, [], _∷_}
+use mathlib.Core.List.{List, []}
 use mathlib.Core.Path.{_≡_, refl, sym, _∙_}
 use Prim.Native.Nat.{ℕ, zero, suc, _+_, _≤_, _<_}
 use native.Mathlib.Omega.{arith}

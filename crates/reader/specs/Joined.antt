@@ -4,46 +4,23 @@ use mathlib.Core.Path.{_≡_, refl}
 use mathlib.Core.List.{List, [], _∷_, _++_}
 use Prim.Native.Nat.{ℕ, suc, _+_, _<_}
 use native.Mathlib.Omega.{arith}
-use lib.Dec.{eqb}
 use lib.ListN.{length}
-use borrow.Author.Tests.{eqb-true, eq-eqb}
-use Rattle.codec.specs.Decide.{passes, fails, split}
+use borrow.Author.Tests.{eq-eqb}
 use Rattle.codec.specs.Encode.{head, section}
 use Rattle.codec.specs.Field.{Bytes}
-use Rattle.codec.specs.Number.{inBody}
 use Rattle.reader.specs.declared.Limits.{Limits}
-use Rattle.reader.specs.Reading.{Reading, refused, read, stop, Positive}
+use Rattle.reader.specs.Reading.{read, stop}
 use Rattle.reader.specs.Recording.{Entry, Recording}
 use Rattle.reader.specs.Bytes.{sectionsBytes, bytesOf}
 use Rattle.reader.specs.Range.{BodiesIn, HeadIn}
 use Rattle.reader.specs.Body.{bodyOf, walkOf, judged, tally}
 use Rattle.reader.specs.BodyStrict.{body-strict}
-use Rattle.reader.specs.Positive.{body-positive}
 use Rattle.reader.specs.Parse.{parse}
-use Rattle.reader.specs.Roundtrip.{Small, body-back, parse-back, spansOf}
-
--- a log that the walk takes, as a body of its accesses, from any place
-pub walk-reads : (m : Limits) (at : ℕ) (b : List ℕ) (count wrong : ℕ) → walkOf m at b count wrong .number ≡ 0
-    → (es : List Entry) × (bodyOf m at b ≡ read es) × (length es ≡ count)
-unfolding walkOf judged tally
-walk-reads m at b count wrong z = go (bodyOf m at b) refl (body-positive m at b)
-  where
-    go : (x : Reading (List Entry)) → bodyOf m at b ≡ x → Positive x → (es : List Entry) × (bodyOf m at b ≡ read es) × (length es ≡ count)
-    go (refused c) q p = absurd (let y : c .number ≡ 0 = rw q at z in omega arith)
-    go (read es) q p =
-        let o : 0 + length es ≡ length es = omega arith in
-        elim (split (eqb (length es) count)) [
-          | passes r ↦ (es, q, eqb-true _ _ r)
-          | fails r ↦ absurd (let y : inBody ≡ 0 = rw (q, o, r) at z in omega arith)
-        ]
+use Rattle.reader.specs.Roundtrip.{parse-back, spansOf}
 
 pub reads-walk : (m : Limits) (at : ℕ) (b : List ℕ) (es : List Entry) (wrong : ℕ) → bodyOf m at b ≡ read es → walkOf m at b (length es) wrong ≡ stop 0 0
 unfolding walkOf judged tally
 reads-walk m at b es wrong q = let o : 0 + length es ≡ length es = omega arith in rw (q, o, eq-eqb (length es) (length es) refl)
-
--- what reads at one place reads at another
-pub body-moved : (m : Limits) → Small m → (at to : ℕ) (b : List ℕ) (es : List Entry) → Bytes b → bodyOf m at b ≡ read es → bodyOf m to b ≡ read es
-body-moved m s at to b es by q = let w = body-strict m at b es by q in rw (w .0) (body-back m s to es (w .1))
 
 pub record LogRead (m : Limits) (log : List ℕ) (es : List Entry) : Type 0 where
   pub bytes : Bytes log

@@ -4,7 +4,7 @@ use mathlib.Core.List.{List, [], _∷_}
 use Prim.Native.Nat.{ℕ, zero, suc, _+_, _-_, _≤_, min}
 use native.Mathlib.Omega.{arith}
 use lib.ListN.{length, take, drop, length-take, length-drop}
-use lib.Seq.{drop-drop, take-take, take-all, take-nil}
+use lib.Seq.{drop-drop, take-all, take-nil}
 
 unfoldable pub part : ℕ → ℕ → List ℕ → List ℕ
 part from to b = take (to - from) (drop from b)
@@ -40,10 +40,6 @@ unfolding part
 part-min from to b =
     let e : min to (length b) - from ≡ min (to - from) (length b - from) = omega arith in
     rw (e, ← length-drop from b) (take-min (to - from) (drop from b))
-
-pub part-take : (n from to : ℕ) (b : List ℕ) → from + n ≤ to → take n (part from to b) ≡ part from (from + n) b
-unfolding part
-part-take n from to b h = let e : from + n - from ≡ n = omega arith in rw (e, take-take n (to - from) (drop from b) (omega arith))
 
 pub part-all : (b : List ℕ) → part 0 (length b) b ≡ b
 unfolding part

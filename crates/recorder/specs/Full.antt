@@ -7,13 +7,16 @@ use Prim.Native.Nat.{ℕ, zero, suc, _+_, _≤_, _<_}
 use native.Mathlib.Omega.{arith}
 use borrow.Author.Tests.{lt-leb, le-leb}
 use lib.ListN.{length, replicate}
+use Rattle.reader.specs.Parse.{allBelow}
 use Rattle.tracker.specs.Facts.{Sound, sound-test}
 use Rattle.tracker.specs.Kept.{next-facts}
 use Rattle.tracker.specs.After.{next-tasks, next-objects, next-shaped, next-done}
 use Rattle.tracker.specs.Opened.{openedState, opened-facts, opened-shaped}
+use Rattle.tracker.specs.Range.{isWithin}
 use Rattle.tracker.specs.State.{Shaped, doneOf}
 use Rattle.recorder.specs.AccessOf.{checked, accessNumber, accepted, refused, accessOf}
 use Rattle.recorder.specs.Accepted.{Takes, takes-accepted, entry-bound}
+use Rattle.recorder.specs.OpenOf.{entriesOk, openNumber, OpenOutcome, opened, openOf}
 use Rattle.recorder.specs.WholeRun.{Call, Box, outcome, called, calledAll}
 
 -- task 0 reads object 0
@@ -60,26 +63,38 @@ stands-all (suc k) n b w h =
     let e : n + suc k ≡ n + 1 + k = omega arith in
     rw e (stands-all k (n + 1) (called b again) (stands-more b n w (omega arith)) (omega arith))
 
--- the box of an opening with one task and one object
+-- an opening with one task and one object, and the box that it leaves
+abbrev opening : OpenOutcome
+opening = openOf 1 1 (0 ∷ []) (0 ∷ []) (0 ∷ []) (replicate 13 0)
+
 abbrev first : Box
-first = record { state = openedState 1 1 (0 ∷ []); memory = 0 ∷ []; logs = λ t. [] }
+first = record { state = opening .answer .state; memory = opening .memory; logs = λ t. [] }
 
 first-owner : (o : ℕ) → o < 1 → lib.ListN.getD (0 ∷ []) o 0 < 1
 first-owner zero h = omega arith
 first-owner (suc o) h = absurd (omega arith)
 
+taken : opening .answer .number ≡ 0
+unfolding openOf opened openNumber isWithin entriesOk allBelow
+taken = refl
+
+first-is : first ≡ record { state = openedState 1 1 (0 ∷ []); memory = 0 ∷ []; logs = λ t. [] }
+unfolding openOf opened openNumber isWithin entriesOk allBelow
+first-is = refl
+
 first-stands : Stands first 0
 unfolding openedState
-first-stands = record {
+first-stands = rw first-is (record {
   sound = opened-facts 1 1 (0 ∷ []) (omega arith) (omega arith) (omega arith) (omega arith) first-owner;
   shaped = opened-shaped 1 1 (0 ∷ []);
   tasks = refl;
   objects = refl;
   memory = refl;
   done = refl;
-}
+})
 
 pub record Full : Type 0 where
+  pub opening-taken : opening .answer .number ≡ 0
   pub last-taken : outcome (calledAll first (replicate 65534 again)) again .answer .number ≡ 0
   pub next-eight : outcome (calledAll first (replicate 65535 again)) again .answer .number ≡ 8
 
@@ -98,6 +113,7 @@ eight-at b w = rw (
 
 pub full-run : Full
 full-run = record {
+  opening-taken = taken;
   last-taken = taken-at (calledAll first (replicate 65534 again)) 65534 (stands-all 65534 0 first first-stands (omega arith)) (omega arith);
   next-eight = eight-at (calledAll first (replicate 65535 again)) (stands-all 65535 0 first first-stands (omega arith));
 }

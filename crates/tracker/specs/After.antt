@@ -48,10 +48,6 @@ module _ (s : State) (task object : ℕ) (write : Bool) where
   unfolding nextOf
   next-took l h = getD-set-same (s .took) task _ 0 (omega (arith, l .took))
 
-  pub next-shares : nextOf s task object write .shares ≡ effectOf (rowAt s task object write) s task (localityOf s object) .shares
-  unfolding nextOf
-  next-shares = refl
-
   pub next-last : nextOf s task object write .last ≡ effectOf (rowAt s task object write) s task (localityOf s object) .last
   unfolding nextOf
   next-last = refl

