@@ -7,7 +7,8 @@ use mathlib.Core.Path.{_≡_, refl, sym, ap, _∙_, fun-ext}
 use Prim.Native.Nat.{ℕ, zero, suc, _+_, _≤_, _<_}
 use native.Mathlib.Omega.{arith}
 use native.Mathlib.Decide.{decLt}
-use borrow.Author.Tests.{eqb-false}
+use borrow.Author.Tests.{eqb-false, ltb-false, le-ltb}
+use lib.Dec.{ltb}
 use lib.ListN.{length, getD}
 use Rattle.codec.specs.Decide.{never, passes, fails, split}
 use Rattle.reader.specs.Parse.{Parsed}
@@ -19,9 +20,12 @@ use Rattle.history.specs.Replay.{State, Reply, fresh, shown, tally, recordedOrd
 use Rattle.history.specs.Ready.{Ready}
 use Rattle.history.specs.Faithful.{after, Faithful, faithful}
 use Rattle.replayer.specs.declared.Stepped.{Stepped}
+use Rattle.replayer.specs.All.{all-test}
+use Rattle.replayer.specs.Finish.{tasksIn, finishedOf}
 use Rattle.replayer.specs.OpenOf.{openOf}
 use Rattle.replayer.specs.ReadyLaws.{ReadySet, ready-word}
 use Rattle.replayer.specs.ReadyOf.{isReady as isReadyBy, readyOf}
+use Rattle.replayer.specs.Run.{taskAt}
 use Rattle.replayer.specs.StepLaws.{refused-stays}
 use Rattle.replayer.specs.Word.{wordOf, hasBit}
 use Rattle.fidelity.specs.Bench.{Bench, benchOf, answerOf, stepped, steppedAll, takes as takesBy, tally as tallyBy, tallyOf as tallyOfBy, AllTaken as AllTakenBy}
@@ -45,6 +49,9 @@ none-set f i (suc n) e = rw (e i (omega arith), none-set f (suc i) n (λ t l. e 
 
 act-of : {r s : Reply} → some r ≡ some s → r .act ≡ s .act
 act-of q = cc
+
+tasks-in : (tasks : ℕ) → tasksIn tasks ≤ tasks
+tasks-in tasks = elim (split (ltb tasks 16)) [ passes p ↦ rw p (omega arith) | fails p ↦ rw p (omega (arith, ltb-false tasks 16 p)) ]
 
 -- a step that is not taken leaves all as it was
 pub refused-changes-nothing : (bytes : List ℕ) (b : Bench) (t : ℕ) → takesBy bytes b t ≡ false → stepped bytes b t ≡ b
@@ -143,6 +150,15 @@ module _ (start : ℕ → ℕ) (h : History) (bytes : List ℕ) (p : Parsed) (m 
 
   pub end-memory : (steps : List ℕ) → tallyBy bytes first steps ≡ length h → (c : ℕ) → c < objects → getD (steppedAll bytes first steps .memory) c 0 ≡ reference start h c
   end-memory steps q c l = sim steps .memory c l ∙ ideal .end-memory steps (sym (counts-same steps) ∙ q) c
+
+  -- where all accesses are done no task has any left
+  pub end-finished : (steps : List ℕ) → tallyBy bytes first steps ≡ length h → finishedOf (steppedAll bytes first steps .run) ≡ true
+  end-finished steps q = all-test _ _ (λ t l.
+      let i = sim steps in
+      let f : tasksIn (steppedAll bytes first steps .run .tasks) ≤ steppedAll bytes first steps .run .tasks = tasks-in _ in
+      let d = ideal .end-done steps (sym (counts-same steps) ∙ q) t in
+      let x = taskAt (steppedAll bytes first steps .run .runs) t in
+      rw (le-ltb (x .done) (x .count) (omega (arith, d, i .done t, i .counts t (omega (arith, l, f, i .tasks-same))))))
 
   -- memory after any steps: the starting values with the writes of the accesses done
   pub memory-of-writes : (steps : List ℕ) (c : ℕ) → c < objects → getD (steppedAll bytes first steps .memory) c 0 ≡ memoryOf start (λ t. tallyOfBy t bytes first steps) h c

@@ -54,8 +54,10 @@ module _ (start : ℕ → ℕ) (h : History) where
     pub own-moves-on : (steps : List ℕ) (t : ℕ) → takes h (after steps) t ≡ true
         → step h (after steps) t .done t ≡ suc (after steps .done t)
     pub others-stay : (steps : List ℕ) (t u : ℕ) → (u ≡ t → ⊥) → step h (after steps) t .done u ≡ after steps .done u
-    -- 5. No task is ready exactly when as many steps were taken as there are entries; then memory is the reference memory.
+    -- 5. No task is ready exactly when as many steps were taken as there are entries; then each task has done all of its own, and
+    -- memory is the reference memory.
     pub stops-at-end : (steps : List ℕ) → ((t : ℕ) → Ready h (after steps .done) t → ⊥) ↔ (tally h (fresh start) steps ≡ length h)
+    pub end-done : (steps : List ℕ) → tally h (fresh start) steps ≡ length h → (t : ℕ) → after steps .done t ≡ count t h
     pub end-memory : (steps : List ℕ) → tally h (fresh start) steps ≡ length h → (c : ℕ) → after steps .memory c ≡ reference start h c
     -- 6. The recorded order, the entries' tasks oldest first, is taken whole: each step of it is taken.
     pub recorded-order : AllTaken h (fresh start) (recordedOrder h)
@@ -100,6 +102,7 @@ faithful {start} {h} so = record {
     ],
     λ p. finished-unready (all-done so steps p),
   );
+  end-done = λ steps p t. omega (arith, all-done so steps p t, kept-after so steps .bounded t);
   end-memory = λ steps p c. kept-after so steps .holds c ∙ memory-all start (after start h steps .done) c h (λ e g a w. all-in (all-done so steps p) a);
   recorded-order = recorded-taken so;
   confluent-memory = λ steps others p c. kept-after so steps .holds c ∙ ap (λ (d : ℕ → ℕ). memoryOf start d h c) (fun-ext p) ∙ sym (kept-after so others .holds c);
