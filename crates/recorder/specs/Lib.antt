@@ -1,10 +1,11 @@
+pub mod Accepted
+pub mod AccessOf
+pub mod AccessTurn
+pub mod Full
+pub mod LogTurn
 pub mod OpenOf
 pub mod OpenTurn
-pub mod AccessOf
-pub mod LogTurn
-pub mod AccessTurn
+pub mod Orders
 pub mod SectionOf
 pub mod SectionTurn
 pub mod WholeRun
-pub mod Accepted
-pub mod Full
