@@ -28,6 +28,8 @@ pub mod ReadyLaws
 pub mod ReadyOf
 pub mod Run
 pub mod Schedule
+pub mod ScheduleLaws
+pub mod ScheduleTurn
 pub mod Sound
 pub mod StepLaws
 pub mod StepOf
