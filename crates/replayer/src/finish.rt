@@ -1,7 +1,7 @@
 // A run played on, the lowest ready task first, until no task is ready; and whether a run has finished.
 ghost use mathlib.Core.Path.{_≡_};
 ghost use Prim.Native.Nat.{_<_};
-ghost use Rattle.replayer.specs.Finish.{leftOver, finishOf, shownPlay, tasksIn, finishedOf};
+ghost use Rattle.replayer.specs.Finish.{leftOver, finishOf, shownPlay, tasksIn, finishedOf, finishedCall};
 ghost use Rattle.replayer.specs.FinishLaws.{Playing};
 use crate::Run;
 use crate::columns::columns_of;
@@ -9,6 +9,14 @@ use crate::columns::run_of;
 use crate::effect::perform;
 use crate::lowest::NextStep;
 use crate::lowest::lowest;
+use crate::sound::sound;
+use codec::number::UNSOUND;
+
+// Whether a run has finished; 17 and no for one that is not sound.
+pub struct Completion {
+    pub number: u32,
+    pub finished: bool,
+}
 
 // Where a run ended or stuck, and the steps that it took.
 pub struct Played {
@@ -66,7 +74,7 @@ fn tasks_in(tasks: usize) -> usize
 }
 
 // Whether no task has accesses left.
-pub fn finished(run: Run) -> bool
+pub(crate) fn all_done(run: Run) -> bool
     ensures { λ r. ⌜ r ≡ finishedOf run ⌝ }
 {
     let tasks = tasks_in(run.tasks);
@@ -77,4 +85,20 @@ pub fn finished(run: Run) -> bool
         }
     }
     true
+}
+
+// Whether a run over these bytes has finished.
+pub fn finished(run: Run, bytes: &[u8]) -> Completion
+    ensures { λ r. ⌜ r ≡ finishedCall run (now (bytes .entry)) ⌝ }
+{
+    if sound(run, bytes.len()) {
+        return Completion {
+            number: 0,
+            finished: all_done(run),
+        };
+    }
+    Completion {
+        number: UNSOUND,
+        finished: false,
+    }
 }
