@@ -1,0 +1,3 @@
+pub mod Ran
+pub mod WholeRecording
+pub mod WholeText
