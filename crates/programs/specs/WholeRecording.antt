@@ -24,7 +24,7 @@ use Rattle.fidelity.specs.Theorem.{acceptance}
 use Rattle.script.specs.Front.{store-front}
 use Rattle.script.specs.Lines.{Line}
 use Rattle.script.specs.Packed.{packed}
-use Rattle.script.specs.RecordOf.{begun, finished, opening, withOpening}
+use Rattle.script.specs.RecordOf.{longestHead, begun, finished, opening, withOpening}
 use Rattle.script.specs.Room.{opening-facts}
 use Rattle.script.specs.Session.{Session, most, fedAll}
 use Rattle.programs.specs.Ran.{sumLogs, sum-none, Ran, ran-all}
@@ -91,14 +91,14 @@ head-size tasks objects owners starts memory out z =
 
 module _ (tasks line : ℕ) (owners starts : List ℕ) (ls : List Line) (under : AllUnder 4294967296 starts) (z : opening tasks owners starts .answer .number ≡ 0) where
   abbrev opened-by : Opening
-  opened-by = record { tasks = tasks; objects = length owners; owners = owners; starts = starts; memory = replicate (length owners) 0; out = replicate most 0; fits = under }
+  opened-by = record { tasks = tasks; objects = length owners; owners = owners; starts = starts; memory = replicate (length owners) 0; out = replicate longestHead 0; fits = under }
 
   abbrev first : Session
   first = begun (opening tasks owners starts .answer .state) (opening tasks owners starts .memory) (opening tasks owners starts .answer .written) tasks
 
   first-ran : Ran opened-by z (opening tasks owners starts .answer .written + 12 * tasks) first
   first-ran =
-      let f = opening-facts tasks (length owners) owners starts (replicate (length owners) 0) (replicate most 0) z in
+      let f = opening-facts tasks (length owners) owners starts (replicate (length owners) 0) (replicate longestHead 0) z in
       record {
         asked = [];
         box = box-none (firstBox opened-by);
@@ -113,7 +113,7 @@ module _ (tasks line : ℕ) (owners starts : List ℕ) (ls : List Line) (under :
       let r = ran-all opened-by z (w + 12 * tasks) first ls first-ran in
       let b = lastBox opened-by (r .asked) in
       let q : sumLogs (b .logs) tasks ≡ sumLogs (fedAll first ls .box .logs) tasks = ap (λ (x : Box). sumLogs (x .logs) tasks) (sym (r .box)) in
-      let n = head-size tasks (length owners) owners starts (replicate (length owners) 0) (replicate most 0) z in
+      let n = head-size tasks (length owners) owners starts (replicate (length owners) 0) (replicate longestHead 0) z in
       let g = packed-all opened-by z (r .asked) w (omega (arith, r .total, r .fits, q)) 0 tasks w (omega arith) (omega (arith, sum-zero (b .logs))) in
       rw (eq-eqb _ _ z, eq-eqb _ _ h, r .box, n) (record {
         opening = opened-by;

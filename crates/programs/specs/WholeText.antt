@@ -30,11 +30,11 @@ numbered-from n (l ∷ ls) h = elim (split (isPassed l)) [
   | fails p ↦ rw p (h, numbered-from (n + 1) ls (omega arith))
 ]
 
-stop-none : (line number : ℕ) → 1 ≤ line → stopOf line number .answer .line ≡ 0 → WholeRecording (stopOf line number .bytes)
+stop-none : (line number : ℕ) → 1 ≤ line → stopOf line number .line ≡ 0 → WholeRecording (stopOf line number .bytes)
 stop-none line number h e = absurd (let z : ⊥ = omega arith in z)
 
 opening-whole : (tasks line : ℕ) (owners starts : List ℕ) (ls : List Line) → AllUnder 4294967296 starts → 1 ≤ line
-    → withOpening tasks line (opening tasks owners starts) ls .answer .line ≡ 0 → WholeRecording (withOpening tasks line (opening tasks owners starts) ls .bytes)
+    → withOpening tasks line (opening tasks owners starts) ls .line ≡ 0 → WholeRecording (withOpening tasks line (opening tasks owners starts) ls .bytes)
 unfolding withOpening finished
 opening-whole tasks line owners starts ls under k e =
     let o = opening tasks owners starts in
@@ -47,7 +47,7 @@ opening-whole tasks line owners starts ls under k e =
     ]
 
 owners-whole : (missing tasks line : ℕ) (owners : List ℕ) (ls : List Line) → 1 ≤ missing → 1 ≤ line → Numbered ls
-    → withOwners missing tasks line owners ls .answer .line ≡ 0 → WholeRecording (withOwners missing tasks line owners ls .bytes)
+    → withOwners missing tasks line owners ls .line ≡ 0 → WholeRecording (withOwners missing tasks line owners ls .bytes)
 unfolding withOwners Numbered
 owners-whole missing tasks line owners [] h k n e = stop-none missing 0 h e
 owners-whole missing tasks line owners (l ∷ ls) h k n e = elim (split (isRow (length owners) (fieldsOf (l .bytes)))) [
@@ -56,7 +56,7 @@ owners-whole missing tasks line owners (l ∷ ls) h k n e = elim (split (isRow (
 ]
 
 sizes-whole : (missing tasks objects : ℕ) (ls : List Line) → 1 ≤ missing → Numbered ls
-    → withSizes missing tasks objects ls .answer .line ≡ 0 → WholeRecording (withSizes missing tasks objects ls .bytes)
+    → withSizes missing tasks objects ls .line ≡ 0 → WholeRecording (withSizes missing tasks objects ls .bytes)
 unfolding withSizes Numbered
 sizes-whole missing tasks objects [] h n e = stop-none missing 0 h e
 sizes-whole missing tasks objects (l ∷ ls) h n e = elim (split (isRow objects (fieldsOf (l .bytes)))) [
@@ -64,7 +64,7 @@ sizes-whole missing tasks objects (l ∷ ls) h n e = elim (split (isRow objects 
   | passes p ↦ rw p (owners-whole missing tasks (l .number) (ownersOf (fieldsOf (l .bytes))) ls h (n .0) (n .1) (rw p at e))
 ]
 
-lines-whole : (missing : ℕ) (ls : List Line) → 1 ≤ missing → Numbered ls → withLines missing ls .answer .line ≡ 0 → WholeRecording (withLines missing ls .bytes)
+lines-whole : (missing : ℕ) (ls : List Line) → 1 ≤ missing → Numbered ls → withLines missing ls .line ≡ 0 → WholeRecording (withLines missing ls .bytes)
 unfolding withLines Numbered
 lines-whole missing [] h n e = stop-none missing 0 h e
 lines-whole missing (l ∷ ls) h n e =
@@ -77,5 +77,5 @@ lines-whole missing (l ∷ ls) h n e =
       ]
     ]
 
-pub whole-text : (text : List ℕ) → recordOf text .answer .line ≡ 0 → WholeRecording (recordOf text .bytes)
+pub whole-text : (text : List ℕ) → recordOf text .line ≡ 0 → WholeRecording (recordOf text .bytes)
 whole-text text e = lines-whole (1 + length (linesOf text)) (numbered 1 (linesOf text)) (omega arith) (numbered-from 1 (linesOf text) (omega arith)) e

@@ -1,4 +1,4 @@
-pub mod Long
+pub mod Zeros
 pub mod Number
 pub mod Found
 pub mod Front
@@ -19,3 +19,7 @@ pub mod Packed
 pub mod PackedTurn
 pub mod RecordOf
 pub mod RecordTurn
+pub mod Message
+pub mod MessageTurn
+pub mod AnswerOf
+pub mod AnswerTurn

@@ -1,9 +1,9 @@
-use Rattle.script.specs.Long.{zeros-long}
+use Rattle.script.specs.Zeros.{zeros-are}
 use Rattle.script.proofs.space.megabyte.Statement.{statement}
 use Rattle.script.proofs.space.megabyte.Tie as tie
 
 returns : tie.Need-returns
-returns c = zeros-long 1048577 0
+returns c = zeros-are 1048577
 
 pub megabyte-spec : {M : Type 1} → statement M
 megabyte-spec = tie.close (tie.spec returns)
