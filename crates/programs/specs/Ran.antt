@@ -1,21 +1,25 @@
--- A text's session is that of a list of calls from its opening, with the bytes in its logs counted.
+-- A text's session is that of a list of calls from its opening, each of them accepted, with the bytes in its logs counted.
 use mathlib.Core.Path.{_≡_, refl, ap, _∙_, sym}
 use mathlib.Core.Bool.{Bool, true, cond, _&&_}
 use mathlib.Core.List.{List, [], _∷_, _++_}
 use Prim.Native.Nat.{ℕ, zero, suc, _+_, _-_, _<_, _≤_}
+use native.Mathlib.Numerals.{add-one}
 use native.Mathlib.Omega.{arith}
 use borrow.Author.Tests.{ne-eqb, eqb-true, eqb-false, ltb-true}
 use lib.Dec.{eqb}
 use lib.ListN.{length, take, replicate, length-append, length-replicate}
 use Rattle.codec.specs.Decide.{passes, fails, split, both-pass}
+use Rattle.history.specs.History.{History}
 use Rattle.recorder.specs.AccessOf.{isWrite, entryOf, accessNumber, accepted, refused, accessOf}
 use Rattle.recorder.specs.Accepted.{number-takes}
 use Rattle.recorder.specs.WholeRun.{Box, outcome, called, calledAll}
 use Rattle.reader.specs.Bytes.{entry-length}
 use Rattle.tracker.specs.declared.State.{State}
-use Rattle.fidelity.specs.Box.{Opening, openedBy, Asked, callsOf, firstBox, lastBox}
+use Rattle.fidelity.specs.Box.{Opening, openedBy, Asked, callsOf, firstBox, lastBox, accepts, recordedFrom, recorded}
+use Rattle.fidelity.specs.Box.{entryOf as historyEntry}
 use Rattle.fidelity.specs.FirstBox.{follows-last}
 use Rattle.script.specs.Front.{store-front}
+use Rattle.programs.specs.Numbered.{Numbered}
 use Rattle.script.specs.Asked.{askedBy, askedOf, isNumber}
 use Rattle.script.specs.Fields.{fieldsOf}
 use Rattle.script.specs.Lines.{Line}
@@ -52,6 +56,13 @@ unfolding calledAll
 last-more b [] x = refl
 last-more b (a ∷ asked) x = last-more (called b (a .call)) asked x
 
+-- one access more is recorded, if the call is accepted
+count-more : (h : History) (b : Box) (asked : List Asked) (x : Asked) → accepts (calledAll b (callsOf asked)) (x .call) ≡ true
+    → length (recordedFrom h b (callsOf (asked ++ (x ∷ [])))) ≡ length (recordedFrom h b (callsOf asked)) + 1
+unfolding calledAll recordedFrom
+count-more h b [] x p = rw p (sym (add-one (length h)))
+count-more h b (a ∷ asked) x p = count-more (cond (accepts b (a .call)) (historyEntry b (a .call) ∷ h) h) (called b (a .call)) asked x p
+
 -- an access writes as many bytes as it says
 written-length : (s : State) (task object sort value : ℕ) (memory out : List ℕ)
     → length (take (accessOf s task object sort value memory out .answer .written) (accessOf s task object sort value memory out .out)) ≡ accessOf s task object sort value memory out .answer .written
@@ -83,51 +94,57 @@ asked-fits f g = elim (split (eqb (length f) 3)) [
 ]
 
 module _ (o : Opening) (z : openedBy o .answer .number ≡ 0) (base : ℕ) where
-  -- a session that calls from the opening led to, with what is in its logs counted
-  pub record Ran (s : Session) : Type 0 where
+  -- a session that n lines led to from the opening: the calls, what is in its logs counted, and one access recorded for each line
+  pub record Ran (n : ℕ) (s : Session) : Type 0 where
     pub asked : List Asked
     pub box : s .box ≡ lastBox o asked
     pub total : s .total ≡ base + sumLogs (s .box .logs) (o .tasks)
     pub fits : s .total ≤ most
+    pub counted : s .line ≡ 0 → length (recorded o asked) ≡ n
 
-  ran-stop : (s : Session) (line number : ℕ) → Ran s → Ran (stoppedAt s line number)
+  ran-stop : (n : ℕ) (s : Session) (line number : ℕ) → 1 ≤ line → Ran n s → Ran (n + 1) (stoppedAt s line number)
   unfolding stoppedAt
-  ran-stop s line number r = record { asked = r .asked; box = r .box; total = r .total; fits = r .fits }
+  ran-stop n s line number h r = record { asked = r .asked; box = r .box; total = r .total; fits = r .fits; counted = λ e. absurd (let z : ⊥ = omega arith in z) }
 
-  ran-asking : (s : Session) (line : ℕ) (f : List ℕ) → Ran s → askedOf f .good ≡ true → Ran (asking s line (callOf (s .total) (askedOf f)))
+  ran-asking : (n : ℕ) (s : Session) (line : ℕ) (f : List ℕ) → 1 ≤ line → s .line ≡ 0 → Ran n s → askedOf f .good ≡ true
+      → Ran (n + 1) (asking s line (callOf (s .total) (askedOf f)))
   unfolding asking called outcome
-  ran-asking s line f r g =
+  ran-asking n s line f h i r g =
       let a = askedOf f in
       let b = s .box in
       let c = callOf (s .total) a in
       let x : Asked = record { call = c; fits = asked-fits f g } in
       let same = access-same (b .state) (a .task) (a .object) (a .sort) (a .value) (b .memory) (replicate (most - s .total) 0) (most - s .total) (length-replicate {A = ℕ} (most - s .total) 0) in
       elim (split (eqb (outcome b c .answer .number) 0)) [
-        | fails p ↦ rw p (ran-stop s line (outcome b c .answer .number) r)
+        | fails p ↦ rw p (ran-stop n s line (outcome b c .answer .number) h r)
         | passes p ↦
             let t = number-takes (b .state) (a .task) (a .object) (a .sort) (a .value) (b .memory) (replicate (most - s .total) 0) (eqb-true _ _ p) in
             let e : b .state .tasks ≡ o .tasks = ap (λ (y : Box). y .state .tasks) (r .box) ∙ follows-last o z (r .asked) .tasks-are in
             let w = written-length (b .state) (a .task) (a .object) (a .sort) (a .value) (b .memory) (replicate (most - s .total) 0) in
             let m = sum-more (b .logs) (take (outcome b c .answer .written) (outcome b c .out)) (a .task) (o .tasks) (omega (arith, t .facts .accepts .task-low, e)) in
+            let k = count-more [] (firstBox o) (r .asked) x (ap (λ (y : Box). accepts y c) (sym (r .box)) ∙ p) in
             rw p (record {
               asked = r .asked ++ (x ∷ []);
               box = ap (λ (y : Box). called y c) (r .box) ∙ sym (last-more (firstBox o) (r .asked) x);
               total = omega (arith, r .total, m, w);
               fits = omega (arith, r .fits, same .within);
+              counted = λ _. k ∙ ap (λ (y : ℕ). y + 1) (r .counted i);
             })
       ]
 
-  ran-fed : (s : Session) (l : Line) → Ran s → Ran (fed s l)
+  ran-fed : (n : ℕ) (s : Session) (l : Line) → 1 ≤ l .number → Ran n s → Ran (n + 1) (fed s l)
   unfolding fed judged
-  ran-fed s l r = elim (split (eqb (s .line) 0)) [
-    | fails p ↦ rw p r
+  ran-fed n s l h r = elim (split (eqb (s .line) 0)) [
+    | fails p ↦ rw p (record { asked = r .asked; box = r .box; total = r .total; fits = r .fits; counted = λ e. absurd (eqb-false _ _ p e) })
     | passes p ↦ elim (split (askedOf (fieldsOf (l .bytes)) .good)) [
-      | fails g ↦ rw (p, g) (ran-stop s (l .number) 0 r)
-      | passes g ↦ rw (p, g) (ran-asking s (l .number) (fieldsOf (l .bytes)) r g)
+      | fails g ↦ rw (p, g) (ran-stop n s (l .number) 0 h r)
+      | passes g ↦ rw (p, g) (ran-asking n s (l .number) (fieldsOf (l .bytes)) h (eqb-true _ _ p) r g)
     ]
   ]
 
-  pub ran-all : (s : Session) (ls : List Line) → Ran s → Ran (fedAll s ls)
-  unfolding fedAll
-  ran-all s [] r = r
-  ran-all s (l ∷ ls) r = ran-all (fed s l) ls (ran-fed s l r)
+  pub ran-all : (n : ℕ) (s : Session) (ls : List Line) → Numbered ls → Ran n s → Ran (n + length ls) (fedAll s ls)
+  unfolding fedAll Numbered
+  ran-all n s [] h r = let e : n + 0 ≡ n = omega arith in rw e r
+  ran-all n s (l ∷ ls) h r =
+      let e : n + suc (length ls) ≡ n + 1 + length ls = omega arith in
+      rw e (ran-all (n + 1) (fed s l) ls (h .1) (ran-fed n s l (h .0) r))

@@ -16,7 +16,7 @@ use Rattle.recorder.specs.OpenOf.{openNumber, opened, openOf}
 use Rattle.recorder.specs.OpenTurn.{open-facts}
 use Rattle.recorder.specs.WholeRun.{Box, calledAll}
 use Rattle.recorder.specs.WholeRun.{packed as packedWhole}
-use Rattle.fidelity.specs.Box.{Opening, openedBy, Asked, firstBox, lastBox, recordingOf}
+use Rattle.fidelity.specs.Box.{Opening, openedBy, Asked, firstBox, lastBox, recordedFrom, recorded, recordingOf}
 use Rattle.fidelity.specs.BoxMatches.{sections-accepted}
 use Rattle.fidelity.specs.Packed.{section-wrote}
 use Rattle.fidelity.specs.Statement.{Accepted}
@@ -27,18 +27,21 @@ use Rattle.script.specs.Packed.{packed}
 use Rattle.script.specs.RecordOf.{longestHead, begun, finished, opening, withOpening}
 use Rattle.script.specs.Room.{opening-facts}
 use Rattle.script.specs.Session.{Session, most, fedAll}
+use Rattle.programs.specs.Numbered.{Numbered}
 use Rattle.programs.specs.Ran.{sumLogs, sum-none, Ran, ran-all}
 
 -- an output for each section that just holds it
 abbrev pub outsOf : Box → ℕ → List ℕ
 outsOf b t = replicate (12 + length (b .logs t)) 0
 
--- the bytes are a whole run's recording, with everything accepted
-pub record WholeRecording (bytes : List ℕ) : Type 0 where
+-- the bytes are a whole run's recording, with everything accepted; so many accesses are recorded, and they leave such a memory
+pub record WholeRecording (bytes memory : List ℕ) (accesses : ℕ) : Type 0 where
   pub opening : Opening
   pub asked : List Asked
   pub is : bytes ≡ recordingOf opening asked (outsOf (lastBox opening asked))
-  pub accepted : (memory : List ℕ) → length memory ≡ opening .objects → Accepted opening asked (outsOf (lastBox opening asked)) memory
+  pub accepted : (lent : List ℕ) → length lent ≡ opening .objects → Accepted opening asked (outsOf (lastBox opening asked)) lent
+  pub counted : length (recorded opening asked) ≡ accesses
+  pub left : lastBox opening asked .memory ≡ memory
 
 sum-suc : (logs : ℕ → List ℕ) (t : ℕ) → sumLogs logs (suc t) ≡ sumLogs logs t + length (logs t)
 unfolding sumLogs
@@ -96,7 +99,8 @@ module _ (tasks line : ℕ) (owners starts : List ℕ) (ls : List Line) (under :
   abbrev first : Session
   first = begun (opening tasks owners starts .answer .state) (opening tasks owners starts .memory) (opening tasks owners starts .answer .written) tasks
 
-  first-ran : Ran opened-by z (opening tasks owners starts .answer .written + 12 * tasks) first
+  first-ran : Ran opened-by z (opening tasks owners starts .answer .written + 12 * tasks) 0 first
+  unfolding recordedFrom
   first-ran =
       let f = opening-facts tasks (length owners) owners starts (replicate (length owners) 0) (replicate longestHead 0) z in
       record {
@@ -104,13 +108,15 @@ module _ (tasks line : ℕ) (owners starts : List ℕ) (ls : List Line) (under :
         box = box-none (firstBox opened-by);
         total = omega (arith, sum-none tasks);
         fits = omega (arith, f .0 .few-tasks, f .0 .few-objects, f .1);
+        counted = λ _. refl;
       }
 
-  pub whole-recording : fedAll first ls .line ≡ 0 → WholeRecording (withOpening tasks line (opening tasks owners starts) ls .bytes)
+  pub whole-recording : Numbered ls → fedAll first ls .line ≡ 0
+      → WholeRecording (withOpening tasks line (opening tasks owners starts) ls .bytes) (withOpening tasks line (opening tasks owners starts) ls .memory) (length ls)
   unfolding withOpening finished
-  whole-recording h =
+  whole-recording k h =
       let w = opening tasks owners starts .answer .written in
-      let r = ran-all opened-by z (w + 12 * tasks) first ls first-ran in
+      let r = ran-all opened-by z (w + 12 * tasks) 0 first ls k first-ran in
       let b = lastBox opened-by (r .asked) in
       let q : sumLogs (b .logs) tasks ≡ sumLogs (fedAll first ls .box .logs) tasks = ap (λ (x : Box). sumLogs (x .logs) tasks) (sym (r .box)) in
       let n = head-size tasks (length owners) owners starts (replicate (length owners) 0) (replicate longestHead 0) z in
@@ -119,5 +125,7 @@ module _ (tasks line : ℕ) (owners starts : List ℕ) (ls : List Line) (under :
         opening = opened-by;
         asked = r .asked;
         is = ap (λ (x : List ℕ). take w (opening tasks owners starts .out) ++ x) g;
-        accepted = λ memory each. acceptance opened-by (r .asked) (outsOf b) memory z (λ t l. rw (length-replicate {A = ℕ} (12 + length (b .logs t)) 0) (omega arith)) each;
+        counted = omega (arith, r .counted h);
+        left = refl;
+        accepted = λ lent each. acceptance opened-by (r .asked) (outsOf b) lent z (λ t l. rw (length-replicate {A = ℕ} (12 + length (b .logs t)) 0) (omega arith)) each;
       })

@@ -6,6 +6,7 @@ pub mod Words
 pub mod Fields
 pub mod FieldsTurn
 pub mod Lines
+pub mod AccessLines
 pub mod Asked
 pub mod Rows
 pub mod RowTurn
