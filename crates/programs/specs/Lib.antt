@@ -1,0 +1,5 @@
+pub mod Numbered
+pub mod Ran
+pub mod WholeRecording
+pub mod WholeText
+pub mod WholeAnswer

@@ -1,9 +1,0 @@
-// Room for a text, or for the logs.
-ghost use Rattle.record.specs.Long.{Long};
-
-// One byte more than a text may have, and than 16 logs of 65,536 bytes have.
-pub(crate) fn megabyte() -> [u8; 1048577]
-    ensures { λ r. ⌜ Long 1048577 r ⌝ }
-{
-    [0u8; 1048577]
-}

@@ -1,0 +1,40 @@
+-- What the program `record` answers to a text: the recording to standard output, or a message to standard error.
+use mathlib.Core.Bool.{cond, _&&_}
+use mathlib.Core.List.{List, []}
+use Prim.Native.Nat.{ℕ, _≤_}
+use lib.Dec.{ltb, leb}
+use lib.ListN.{length}
+use Rattle.text.specs.Appended.{Appended}
+use Rattle.script.specs.declared.Answered.{Answered}
+use Rattle.script.specs.Message.{longText, messageOf}
+use Rattle.script.specs.RecordOf.{recordOf}
+use Rattle.script.specs.Session.{most}
+
+-- what is for standard output, and what for standard error
+pub record Streams : Type 0 where
+  pub output : List ℕ
+  pub message : List ℕ
+
+-- a text has at most so many bytes
+abbrev pub longest : ℕ
+longest = 1048576
+
+unfoldable pub streamsOf : List ℕ → Streams
+streamsOf text =
+    cond (ltb longest (length text)) (record { output = []; message = longText })
+    (record { output = recordOf text .bytes; message = messageOf (recordOf text .line) (recordOf text .number) })
+
+-- every message has room in so many bytes
+abbrev pub messageRoom : ℕ
+messageRoom = 64
+
+-- nothing is answered where a lent buffer is shorter than an answer can be
+unfoldable pub answerOf : ℕ → ℕ → List ℕ → Streams
+answerOf out message text = cond (leb most out && leb messageRoom message) (streamsOf text) (record { output = []; message = [] })
+
+-- both stand at the front of their buffers, the rest of which is as it was
+pub record Answers (s : Streams) (r : Answered) (out₀ out message₀ message : List ℕ) : Type 0 where
+  pub written : Appended (s .output) out₀ 0 out (r .written)
+  pub told : Appended (s .message) message₀ 0 message (r .told)
+  pub written-within : r .written ≤ length out
+  pub told-within : r .told ≤ length message

@@ -1,0 +1,4 @@
+pub mod Appended
+pub mod AppendedLaws
+pub mod Decimal
+pub mod DecimalLaws
