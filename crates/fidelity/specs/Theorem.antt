@@ -1,11 +1,13 @@
 -- DEMAND 3, proved: whatever calls were made and whatever steps are asked for, the replay is faithful. And what the statement
 -- assumes can be had: with output and memory enough no section and no replay opening is turned away.
+use mathlib.Core.Bool.{true}
 use mathlib.Core.List.{List}
 use mathlib.Core.Path.{_≡_, refl, sym, _∙_}
 use Prim.Native.Nat.{ℕ, _+_, _≤_, _<_}
 use lib.ListN.{length}
 use lib.Seq.{ext-getD}
 use Rattle.reader.specs.Calls.{checkedOf}
+use Rattle.replayer.specs.Finish.{finishedOf}
 use Rattle.replayer.specs.OpenLaws.{open-accepts}
 use Rattle.fidelity.specs.Bench.{tally, benchOf}
 use Rattle.fidelity.specs.Box.{Opening, openedBy, Asked, lastBox, recorded, recordingOf}
@@ -13,7 +15,7 @@ use Rattle.fidelity.specs.BoxMatches.{parsedBy, owner-each, box-memory, 
 use Rattle.fidelity.specs.BoxReference.{answers-reference, memory-reference}
 use Rattle.fidelity.specs.FirstBox.{startOf}
 use Rattle.fidelity.specs.Matches.{Matches}
-use Rattle.fidelity.specs.Replayed.{taken-when-ready, refused-changes-nothing, answers-recorded, word-sound, word-ready, memory-of-writes, never-more, stops-at-end, end-memory, memory-entries, recorded-order}
+use Rattle.fidelity.specs.Replayed.{taken-when-ready, refused-changes-nothing, answers-recorded, word-sound, word-ready, memory-of-writes, never-more, stops-at-end, end-memory, end-finished, memory-entries, recorded-order}
 use Rattle.fidelity.specs.Statement.{Accepted, after, Faithful}
 
 module _ (o : Opening) (asked : List Asked) (outs : ℕ → List ℕ) (memory : List ℕ) (a : Accepted o asked outs memory) where
@@ -31,6 +33,11 @@ module _ (o : Opening) (asked : List Asked) (outs : ℕ → List ℕ) (memory : 
 
   entries : (steps : List ℕ) → length (after o asked outs memory steps .memory) ≡ o .objects
   entries steps = memory-entries (startOf o) (recorded o asked) (recordingOf o asked outs) (parsedBy o asked) matches memory (a .replayed) steps ∙ owner-each o (a .opened)
+
+  -- where all accesses are done no task has any left
+  pub run-finished : (steps : List ℕ) → tally (recordingOf o asked outs) (benchOf (recordingOf o asked outs) memory) steps ≡ length (recorded o asked)
+      → finishedOf (after o asked outs memory steps .run) ≡ true
+  run-finished steps e = end-finished (startOf o) (recorded o asked) (recordingOf o asked outs) (parsedBy o asked) matches memory (a .replayed) steps e
 
   pub demand-3 : Faithful o asked outs memory
   unfolding checkedOf

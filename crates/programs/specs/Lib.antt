@@ -1,5 +1,8 @@
+pub mod Both
+pub mod BothProved
 pub mod Numbered
 pub mod Ran
+pub mod Wanted
+pub mod WholeAnswer
 pub mod WholeRecording
 pub mod WholeText
-pub mod WholeAnswer

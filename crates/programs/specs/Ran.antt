@@ -1,7 +1,7 @@
 -- A text's session is that of a list of calls from its opening, each of them accepted, with the bytes in its logs counted.
 use mathlib.Core.Path.{_≡_, refl, ap, _∙_, sym}
 use mathlib.Core.Bool.{Bool, true, cond, _&&_}
-use mathlib.Core.List.{List, [], _∷_, _++_}
+use mathlib.Core.List.{List, [], _∷_, _++_, map, map-append, append-assoc, append-nil}
 use Prim.Native.Nat.{ℕ, zero, suc, _+_, _-_, _<_, _≤_}
 use native.Mathlib.Numerals.{add-one}
 use native.Mathlib.Omega.{arith}
@@ -20,6 +20,8 @@ use Rattle.fidelity.specs.Box.{entryOf as historyEntry}
 use Rattle.fidelity.specs.FirstBox.{follows-last}
 use Rattle.script.specs.Front.{store-front}
 use Rattle.programs.specs.Numbered.{Numbered}
+use Rattle.programs.specs.Wanted.{wantedIn, wantedBy}
+use Rattle.script.specs.declared.asked.Asked.{Asked as Wanted}
 use Rattle.script.specs.Asked.{askedBy, askedOf, isNumber}
 use Rattle.script.specs.Fields.{fieldsOf}
 use Rattle.script.specs.Lines.{Line}
@@ -93,30 +95,43 @@ asked-fits f g = elim (split (eqb (length f) 3)) [
   ]
 ]
 
+-- what a line that is not malformed wants is what its call asks for
+wanted-good : (a : Wanted) → a .good ≡ true → record { good = true; task = a .task; object = a .object; sort = a .sort; value = a .value } ≡ a
+wanted-good a g = rw (← g)
+
 module _ (o : Opening) (z : openedBy o .answer .number ≡ 0) (base : ℕ) where
-  -- a session that n lines led to from the opening: the calls, what is in its logs counted, and one access recorded for each line
-  pub record Ran (n : ℕ) (s : Session) : Type 0 where
+  -- a session that lines led to from the opening: a call for each of them, in their order, one access recorded for each, and what is in
+  -- the logs counted
+  pub record Ran (ls : List Line) (s : Session) : Type 0 where
     pub asked : List Asked
     pub box : s .box ≡ lastBox o asked
     pub total : s .total ≡ base + sumLogs (s .box .logs) (o .tasks)
     pub fits : s .total ≤ most
-    pub counted : s .line ≡ 0 → length (recorded o asked) ≡ n
+    pub asks : s .line ≡ 0 → map wantedBy asked ≡ map wantedIn ls
+    pub counted : s .line ≡ 0 → length (recorded o asked) ≡ length ls
 
-  ran-stop : (n : ℕ) (s : Session) (line number : ℕ) → 1 ≤ line → Ran n s → Ran (n + 1) (stoppedAt s line number)
+  ran-stop : (ls : List Line) (s : Session) (l : Line) (line number : ℕ) → 1 ≤ line → Ran ls s → Ran (ls ++ (l ∷ [])) (stoppedAt s line number)
   unfolding stoppedAt
-  ran-stop n s line number h r = record { asked = r .asked; box = r .box; total = r .total; fits = r .fits; counted = λ e. absurd (let z : ⊥ = omega arith in z) }
+  ran-stop ls s l line number h r = record {
+    asked = r .asked;
+    box = r .box;
+    total = r .total;
+    fits = r .fits;
+    asks = λ e. absurd (let z : ⊥ = omega arith in z);
+    counted = λ e. absurd (let z : ⊥ = omega arith in z);
+  }
 
-  ran-asking : (n : ℕ) (s : Session) (line : ℕ) (f : List ℕ) → 1 ≤ line → s .line ≡ 0 → Ran n s → askedOf f .good ≡ true
-      → Ran (n + 1) (asking s line (callOf (s .total) (askedOf f)))
+  ran-asking : (ls : List Line) (s : Session) (l : Line) → 1 ≤ l .number → s .line ≡ 0 → Ran ls s → wantedIn l .good ≡ true
+      → Ran (ls ++ (l ∷ [])) (asking s (l .number) (callOf (s .total) (wantedIn l)))
   unfolding asking called outcome
-  ran-asking n s line f h i r g =
-      let a = askedOf f in
+  ran-asking ls s l h i r g =
+      let a = wantedIn l in
       let b = s .box in
       let c = callOf (s .total) a in
-      let x : Asked = record { call = c; fits = asked-fits f g } in
+      let x : Asked = record { call = c; fits = asked-fits (fieldsOf (l .bytes)) g } in
       let same = access-same (b .state) (a .task) (a .object) (a .sort) (a .value) (b .memory) (replicate (most - s .total) 0) (most - s .total) (length-replicate {A = ℕ} (most - s .total) 0) in
       elim (split (eqb (outcome b c .answer .number) 0)) [
-        | fails p ↦ rw p (ran-stop n s line (outcome b c .answer .number) h r)
+        | fails p ↦ rw p (ran-stop ls s l (l .number) (outcome b c .answer .number) h r)
         | passes p ↦
             let t = number-takes (b .state) (a .task) (a .object) (a .sort) (a .value) (b .memory) (replicate (most - s .total) 0) (eqb-true _ _ p) in
             let e : b .state .tasks ≡ o .tasks = ap (λ (y : Box). y .state .tasks) (r .box) ∙ follows-last o z (r .asked) .tasks-are in
@@ -128,23 +143,29 @@ module _ (o : Opening) (z : openedBy o .answer .number ≡ 0) (base : ℕ) where
               box = ap (λ (y : Box). called y c) (r .box) ∙ sym (last-more (firstBox o) (r .asked) x);
               total = omega (arith, r .total, m, w);
               fits = omega (arith, r .fits, same .within);
-              counted = λ _. k ∙ ap (λ (y : ℕ). y + 1) (r .counted i);
+              asks = λ _. rw (map-append wantedBy (r .asked) (x ∷ []), map-append wantedIn ls (l ∷ []), r .asks i, wanted-good a g);
+              counted = λ _. rw length-append (omega (arith, k, r .counted i));
             })
       ]
 
-  ran-fed : (n : ℕ) (s : Session) (l : Line) → 1 ≤ l .number → Ran n s → Ran (n + 1) (fed s l)
+  ran-fed : (ls : List Line) (s : Session) (l : Line) → 1 ≤ l .number → Ran ls s → Ran (ls ++ (l ∷ [])) (fed s l)
   unfolding fed judged
-  ran-fed n s l h r = elim (split (eqb (s .line) 0)) [
-    | fails p ↦ rw p (record { asked = r .asked; box = r .box; total = r .total; fits = r .fits; counted = λ e. absurd (eqb-false _ _ p e) })
-    | passes p ↦ elim (split (askedOf (fieldsOf (l .bytes)) .good)) [
-      | fails g ↦ rw (p, g) (ran-stop n s (l .number) 0 h r)
-      | passes g ↦ rw (p, g) (ran-asking n s (l .number) (fieldsOf (l .bytes)) h (eqb-true _ _ p) r g)
+  ran-fed ls s l h r = elim (split (eqb (s .line) 0)) [
+    | fails p ↦ rw p (record {
+      asked = r .asked;
+      box = r .box;
+      total = r .total;
+      fits = r .fits;
+      asks = λ e. absurd (eqb-false _ _ p e);
+      counted = λ e. absurd (eqb-false _ _ p e);
+    })
+    | passes p ↦ elim (split (wantedIn l .good)) [
+      | fails g ↦ rw (p, g) (ran-stop ls s l (l .number) 0 h r)
+      | passes g ↦ rw (p, g) (ran-asking ls s l h (eqb-true _ _ p) r g)
     ]
   ]
 
-  pub ran-all : (n : ℕ) (s : Session) (ls : List Line) → Numbered ls → Ran n s → Ran (n + length ls) (fedAll s ls)
+  pub ran-all : (before : List Line) (s : Session) (ls : List Line) → Numbered ls → Ran before s → Ran (before ++ ls) (fedAll s ls)
   unfolding fedAll Numbered
-  ran-all n s [] h r = let e : n + 0 ≡ n = omega arith in rw e r
-  ran-all n s (l ∷ ls) h r =
-      let e : n + suc (length ls) ≡ n + 1 + length ls = omega arith in
-      rw e (ran-all (n + 1) (fed s l) ls (h .1) (ran-fed n s l (h .0) r))
+  ran-all before s [] h r = rw append-nil r
+  ran-all before s (l ∷ ls) h r = rw append-assoc at (ran-all (before ++ (l ∷ [])) (fed s l) ls (h .1) (ran-fed before s l (h .0) r))

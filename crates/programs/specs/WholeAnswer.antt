@@ -22,7 +22,7 @@ message-none line number e = elim (split (eqb line 0)) [
   | fails p ↦ let f = rw p at e in let z : _≡_ {A = ℕ} 0 1 = cc f in absurd (let y : ⊥ = omega arith in y)
 ]
 
-streams-whole : (text : List ℕ) → streamsOf text .message ≡ [] → WholeRecording (streamsOf text .output) (recordOf text .memory) (length (accessLines text))
+streams-whole : (text : List ℕ) → streamsOf text .message ≡ [] → WholeRecording (streamsOf text .output) (recordOf text .memory) (accessLines text)
 unfolding streamsOf
 streams-whole text e = elim (split (ltb longest (length text))) [
   | passes p ↦ let f : longText ≡ [] = rw p at e in let z : _≡_ {A = ℕ} 0 1 = cc in absurd (let y : ⊥ = omega arith in y)
@@ -30,7 +30,7 @@ streams-whole text e = elim (split (ltb longest (length text))) [
 ]
 
 pub whole-answer : (out message : ℕ) (text : List ℕ) → most ≤ out → messageRoom ≤ message → answerOf out message text .message ≡ []
-    → WholeRecording (answerOf out message text .output) (recordOf text .memory) (length (accessLines text))
+    → WholeRecording (answerOf out message text .output) (recordOf text .memory) (accessLines text)
 unfolding answerOf
 whole-answer out message text h k e =
     let i = le-leb most out h in

@@ -1,15 +1,15 @@
 -- The recording of a text that nothing stopped is that of a whole run (document 01, "Whole runs"): no section is turned away, and
 -- demand 3 holds of it by `fidelity`'s theorem.
 use mathlib.Core.Path.{_≡_, refl, ap, _∙_, sym}
-use mathlib.Core.List.{List, [], _++_}
+use mathlib.Core.List.{List, [], _++_, map}
 use Prim.Native.Nat.{ℕ, zero, suc, _+_, _*_, _-_, _≤_}
 use native.Mathlib.Numerals.{add-one}
 use native.Mathlib.Omega.{arith}
 use borrow.Author.Tests.{eq-eqb, eqb-true, eqb-false}
 use lib.Dec.{eqb}
-use lib.ListN.{length, take, replicate, length-replicate}
+use lib.ListN.{length, take, replicate, length-append, length-replicate}
 use Rattle.codec.specs.Decide.{passes, fails, split}
-use Rattle.codec.specs.Encode.{head, head-length}
+use Rattle.codec.specs.Encode.{head, head-length, section-length}
 use Rattle.codec.specs.Kind.{headLength}
 use Rattle.reader.specs.Range.{AllUnder}
 use Rattle.recorder.specs.OpenOf.{openNumber, opened, openOf}
@@ -28,20 +28,24 @@ use Rattle.script.specs.RecordOf.{longestHead, begun, finished, opening, withOp
 use Rattle.script.specs.Room.{opening-facts}
 use Rattle.script.specs.Session.{Session, most, fedAll}
 use Rattle.programs.specs.Numbered.{Numbered}
+use Rattle.programs.specs.Wanted.{wantedIn, wantedBy}
 use Rattle.programs.specs.Ran.{sumLogs, sum-none, Ran, ran-all}
 
 -- an output for each section that just holds it
 abbrev pub outsOf : Box → ℕ → List ℕ
 outsOf b t = replicate (12 + length (b .logs t)) 0
 
--- the bytes are a whole run's recording, with everything accepted; so many accesses are recorded, and they leave such a memory
-pub record WholeRecording (bytes memory : List ℕ) (accesses : ℕ) : Type 0 where
+-- the bytes are a whole run's recording, with everything accepted: its calls ask for what these lines want, one access is recorded for
+-- each, and they leave such a memory
+pub record WholeRecording (bytes memory : List ℕ) (lines : List Line) : Type 0 where
   pub opening : Opening
   pub asked : List Asked
   pub is : bytes ≡ recordingOf opening asked (outsOf (lastBox opening asked))
   pub accepted : (lent : List ℕ) → length lent ≡ opening .objects → Accepted opening asked (outsOf (lastBox opening asked)) lent
-  pub counted : length (recorded opening asked) ≡ accesses
+  pub asks : map wantedBy asked ≡ map wantedIn lines
+  pub counted : length (recorded opening asked) ≡ length lines
   pub left : lastBox opening asked .memory ≡ memory
+  pub short : length bytes ≤ most
 
 sum-suc : (logs : ℕ → List ℕ) (t : ℕ) → sumLogs logs (suc t) ≡ sumLogs logs t + length (logs t)
 unfolding sumLogs
@@ -75,6 +79,17 @@ module _ (o : Opening) (z : openedBy o .answer .number ≡ 0) (asked : List Aske
       let g = packed-all (suc t) k (at + (12 + length (b .logs t))) (omega arith) (omega (arith, e, sum-suc (b .logs) t)) in
       rw (x .1, y .1, x .0, add-one t, g)
 
+  -- as many bytes as the logs have, and a section record for each
+  packed-size : (t k : ℕ) → t + k ≡ o .tasks → length (packedWhole (lastBox o asked .state) (lastBox o asked .logs) (outsOf (lastBox o asked)) t k) + sumLogs (lastBox o asked .logs) t
+      ≡ 12 * k + sumLogs (lastBox o asked .logs) (o .tasks)
+  unfolding packedWhole
+  packed-size t zero h = let e : t ≡ o .tasks = omega arith in rw e (omega arith)
+  packed-size t (suc k) h =
+      let b = lastBox o asked in
+      let j = sections-accepted o z asked t (omega arith) (outsOf b t) (rw (length-replicate {A = ℕ} (12 + length (b .logs t)) 0) (omega arith)) in
+      let y = section-wrote (b .state) t (b .logs t) (outsOf b t) j in
+      rw (length-append, y .1, length-append, section-length) (omega (arith, packed-size (suc t) k (omega arith), sum-suc (b .logs) t))
+
 box-none : (b : Box) → b ≡ calledAll b []
 unfolding calledAll
 box-none b = refl
@@ -99,7 +114,7 @@ module _ (tasks line : ℕ) (owners starts : List ℕ) (ls : List Line) (under :
   abbrev first : Session
   first = begun (opening tasks owners starts .answer .state) (opening tasks owners starts .memory) (opening tasks owners starts .answer .written) tasks
 
-  first-ran : Ran opened-by z (opening tasks owners starts .answer .written + 12 * tasks) 0 first
+  first-ran : Ran opened-by z (opening tasks owners starts .answer .written + 12 * tasks) [] first
   unfolding recordedFrom
   first-ran =
       let f = opening-facts tasks (length owners) owners starts (replicate (length owners) 0) (replicate longestHead 0) z in
@@ -108,15 +123,16 @@ module _ (tasks line : ℕ) (owners starts : List ℕ) (ls : List Line) (under :
         box = box-none (firstBox opened-by);
         total = omega (arith, sum-none tasks);
         fits = omega (arith, f .0 .few-tasks, f .0 .few-objects, f .1);
+        asks = λ _. refl;
         counted = λ _. refl;
       }
 
   pub whole-recording : Numbered ls → fedAll first ls .line ≡ 0
-      → WholeRecording (withOpening tasks line (opening tasks owners starts) ls .bytes) (withOpening tasks line (opening tasks owners starts) ls .memory) (length ls)
+      → WholeRecording (withOpening tasks line (opening tasks owners starts) ls .bytes) (withOpening tasks line (opening tasks owners starts) ls .memory) ls
   unfolding withOpening finished
   whole-recording k h =
       let w = opening tasks owners starts .answer .written in
-      let r = ran-all opened-by z (w + 12 * tasks) 0 first ls k first-ran in
+      let r = ran-all opened-by z (w + 12 * tasks) [] first ls k first-ran in
       let b = lastBox opened-by (r .asked) in
       let q : sumLogs (b .logs) tasks ≡ sumLogs (fedAll first ls .box .logs) tasks = ap (λ (x : Box). sumLogs (x .logs) tasks) (sym (r .box)) in
       let n = head-size tasks (length owners) owners starts (replicate (length owners) 0) (replicate longestHead 0) z in
@@ -125,7 +141,9 @@ module _ (tasks line : ℕ) (owners starts : List ℕ) (ls : List Line) (under :
         opening = opened-by;
         asked = r .asked;
         is = ap (λ (x : List ℕ). take w (opening tasks owners starts .out) ++ x) g;
-        counted = omega (arith, r .counted h);
+        asks = r .asks h;
+        counted = r .counted h;
         left = refl;
+        short = rw length-append (omega (arith, n, ap length g, packed-size opened-by z (r .asked) w (omega (arith, r .total, r .fits, q)) 0 tasks (omega arith), sum-zero (b .logs), r .total, r .fits, q));
         accepted = λ lent each. acceptance opened-by (r .asked) (outsOf b) lent z (λ t l. rw (length-replicate {A = ℕ} (12 + length (b .logs t)) 0) (omega arith)) each;
       })

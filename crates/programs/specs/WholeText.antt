@@ -20,20 +20,20 @@ use Rattle.script.specs.Session.{fedAll}
 use Rattle.programs.specs.Numbered.{Numbered, numbered-from}
 use Rattle.programs.specs.WholeRecording.{WholeRecording, whole-recording}
 
--- an outcome that no line stopped is a whole run's, with so many accesses
-abbrev Whole : Outcome → ℕ → Type 0
-Whole o accesses = o .line ≡ 0 → WholeRecording (o .bytes) (o .memory) accesses
+-- an outcome that no line stopped is a whole run's, with the accesses of these lines
+abbrev Whole : Outcome → List Line → Type 0
+Whole o lines = o .line ≡ 0 → WholeRecording (o .bytes) (o .memory) lines
 
-stop-none : (line number accesses : ℕ) → 1 ≤ line → Whole (stopOf line number) accesses
-stop-none line number accesses h e = absurd (let z : ⊥ = omega arith in z)
+stop-none : (line number : ℕ) (lines : List Line) → 1 ≤ line → Whole (stopOf line number) lines
+stop-none line number lines h e = absurd (let z : ⊥ = omega arith in z)
 
 opening-whole : (tasks line : ℕ) (owners starts : List ℕ) (ls : List Line) → AllUnder 4294967296 starts → 1 ≤ line → Numbered ls
-    → Whole (withOpening tasks line (opening tasks owners starts) ls) (length ls)
+    → Whole (withOpening tasks line (opening tasks owners starts) ls) ls
 unfolding withOpening finished
 opening-whole tasks line owners starts ls under k n e =
     let o = opening tasks owners starts in
     elim (split (eqb (o .answer .number) 0)) [
-      | fails p ↦ rw p (stop-none line (o .answer .number) (length ls) k (rw p at e))
+      | fails p ↦ rw p (stop-none line (o .answer .number) ls k (rw p at e))
       | passes p ↦ elim (split (eqb (fedAll (begun (o .answer .state) (o .memory) (o .answer .written) tasks) ls .line) 0)) [
         | passes q ↦ whole-recording tasks line owners starts ls under (eqb-true _ _ p) n (eqb-true _ _ q)
         | fails q ↦ absurd (eqb-false _ _ q (rw (p, q) at e))
@@ -41,34 +41,34 @@ opening-whole tasks line owners starts ls under k n e =
     ]
 
 owners-whole : (missing tasks line : ℕ) (owners : List ℕ) (ls : List Line) → 1 ≤ missing → 1 ≤ line → Numbered ls
-    → Whole (withOwners missing tasks line owners ls) (length (drop 1 ls))
+    → Whole (withOwners missing tasks line owners ls) (drop 1 ls)
 unfolding withOwners Numbered
-owners-whole missing tasks line owners [] h k n e = stop-none missing 0 0 h e
+owners-whole missing tasks line owners [] h k n e = stop-none missing 0 [] h e
 owners-whole missing tasks line owners (l ∷ ls) h k n e = elim (split (isRow (length owners) (fieldsOf (l .bytes)))) [
-  | fails p ↦ rw p (stop-none (l .number) 0 (length ls) (n .0) (rw p at e))
+  | fails p ↦ rw p (stop-none (l .number) 0 ls (n .0) (rw p at e))
   | passes p ↦ rw p (opening-whole tasks line owners (fieldsOf (l .bytes)) ls (below-under _ _ (row-facts _ _ p .1)) k (n .1) (rw p at e))
 ]
 
-sizes-whole : (missing tasks objects : ℕ) (ls : List Line) → 1 ≤ missing → Numbered ls → Whole (withSizes missing tasks objects ls) (length (drop 2 ls))
+sizes-whole : (missing tasks objects : ℕ) (ls : List Line) → 1 ≤ missing → Numbered ls → Whole (withSizes missing tasks objects ls) (drop 2 ls)
 unfolding withSizes Numbered
-sizes-whole missing tasks objects [] h n e = stop-none missing 0 0 h e
+sizes-whole missing tasks objects [] h n e = stop-none missing 0 [] h e
 sizes-whole missing tasks objects (l ∷ ls) h n e = elim (split (isRow objects (fieldsOf (l .bytes)))) [
-  | fails p ↦ rw p (stop-none (l .number) 0 (length (drop 1 ls)) (n .0) (rw p at e))
+  | fails p ↦ rw p (stop-none (l .number) 0 (drop 1 ls) (n .0) (rw p at e))
   | passes p ↦ rw p (owners-whole missing tasks (l .number) (ownersOf (fieldsOf (l .bytes))) ls h (n .0) (n .1) (rw p at e))
 ]
 
-lines-whole : (missing : ℕ) (ls : List Line) → 1 ≤ missing → Numbered ls → Whole (withLines missing ls) (length (drop 3 ls))
+lines-whole : (missing : ℕ) (ls : List Line) → 1 ≤ missing → Numbered ls → Whole (withLines missing ls) (drop 3 ls)
 unfolding withLines Numbered
-lines-whole missing [] h n e = stop-none missing 0 0 h e
+lines-whole missing [] h n e = stop-none missing 0 [] h e
 lines-whole missing (l ∷ ls) h n e =
     let s = sizesOf (fieldsOf (l .bytes)) in
     elim (split (s .good)) [
-      | fails p ↦ rw p (stop-none (l .number) 0 (length (drop 2 ls)) (n .0) (rw p at e))
+      | fails p ↦ rw p (stop-none (l .number) 0 (drop 2 ls) (n .0) (rw p at e))
       | passes p ↦ elim (split (eqb (rangeOf (s .tasks) (s .objects)) 3)) [
-        | fails q ↦ rw (p, q) (stop-none (l .number) (rangeOf (s .tasks) (s .objects)) (length (drop 2 ls)) (n .0) (rw (p, q) at e))
+        | fails q ↦ rw (p, q) (stop-none (l .number) (rangeOf (s .tasks) (s .objects)) (drop 2 ls) (n .0) (rw (p, q) at e))
         | passes q ↦ rw (p, q) (sizes-whole missing (s .tasks) (s .objects) ls h (n .1) (rw (p, q) at e))
       ]
     ]
 
-pub whole-text : (text : List ℕ) → recordOf text .line ≡ 0 → WholeRecording (recordOf text .bytes) (recordOf text .memory) (length (accessLines text))
+pub whole-text : (text : List ℕ) → recordOf text .line ≡ 0 → WholeRecording (recordOf text .bytes) (recordOf text .memory) (accessLines text)
 whole-text text e = lines-whole (1 + length (linesOf text)) (numbered 1 (linesOf text)) (omega arith) (numbered-from 1 (linesOf text) (omega arith)) e

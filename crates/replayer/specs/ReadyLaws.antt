@@ -58,3 +58,7 @@ ready-word r b s =
       count = rw s (word-count (isReady r b) (r .tasks) f);
       lowest = rw (s, word-lowest (isReady r b) (r .tasks) f) (lowest-is 16 (isReady r b) 0 (r .tasks) f);
     }
+
+pub ready-unsound : (r : Run) (b : List ℕ) → soundOf r (length b) ≡ false → readyOf r b ≡ record { number = unsound; word = 0 }
+unfolding readyOf
+ready-unsound r b s = rw s
