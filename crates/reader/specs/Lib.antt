@@ -1,3 +1,4 @@
+pub mod Accesses
 pub mod Answers
 pub mod Bodies
 pub mod Body
@@ -7,13 +8,14 @@ pub mod CallTurn
 pub mod Calls
 pub mod Entry
 pub mod EntryCase
+pub mod EntryFits
 pub mod HeadTurn
 pub mod Joined
 pub mod Laid
 pub mod Layout
 pub mod Object
-pub mod Part
 pub mod Parse
+pub mod Part
 pub mod Positive
 pub mod Range
 pub mod Reading
