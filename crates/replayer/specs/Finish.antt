@@ -1,15 +1,19 @@
 -- Lowest ready task first, played to its end (document 01, "Replay"): while a task is ready the lowest of them is stepped. A run has
 -- finished if no task has accesses left; one that ends otherwise is stuck.
-use mathlib.Core.Bool.{Bool, cond, not}
+use mathlib.Core.Bool.{Bool, false, cond, not}
 use mathlib.Core.List.{List}
 use Prim.Native.Nat.{ℕ, zero, suc, _+_, _-_}
 use lib.Dec.{eqb, ltb}
+use lib.ListN.{length}
 use Rattle.replayer.specs.declared.TaskRun.{TaskRun}
 use Rattle.replayer.specs.declared.Run.{Run}
+use Rattle.codec.specs.Number.{unsound}
+use Rattle.replayer.specs.declared.finish.Completion.{Completion}
 use Rattle.replayer.specs.declared.finish.Played.{Played}
 use Rattle.replayer.specs.All.{allFrom}
 use Rattle.replayer.specs.ReadyOf.{hasLeft, readyOf}
 use Rattle.replayer.specs.Run.{taskAt}
+use Rattle.replayer.specs.Sound.{soundOf}
 use Rattle.replayer.specs.StepOf.{stepOf}
 use Rattle.replayer.specs.Word.{lowestReady}
 
@@ -62,3 +66,7 @@ isDone r t = not (hasLeft r t)
 
 abbrev pub finishedOf : Run → Bool
 finishedOf r = allFrom (isDone r) 0 (tasksIn (r .tasks))
+
+-- what is answered of a run over these bytes: 17 where it is unsound (document 01, "Number table")
+unfoldable pub finishedCall : Run → List ℕ → Completion
+finishedCall r b = cond (soundOf r (length b)) (record { number = 0; finished = finishedOf r }) (record { number = unsound; finished = false })

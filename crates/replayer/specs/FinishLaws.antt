@@ -48,7 +48,7 @@ unfolding leftIn
 left-same r t next zero h = refl
 left-same r t next (suc n) h = rw (moved-other r t next n (λ e. omega arith), left-same r t next n (omega arith))
 
-left-less : (r : Run) (t next n : ℕ) → Shaped r → t < 16 → taskAt (r .runs) t .done < taskAt (r .runs) t .count → t < n
+pub left-less : (r : Run) (t next n : ℕ) → Shaped r → t < 16 → taskAt (r .runs) t .done < taskAt (r .runs) t .count → t < n
     → leftIn (movedOf r t next .runs) n + 1 ≡ leftIn (r .runs) n
 unfolding leftIn
 left-less r t next zero s k l h = absurd (omega arith)
@@ -110,12 +110,6 @@ ends (suc n) b x w h = elim (ℕ-discrete (wordAt b x) 0) [
 
 pub finish-ends : (b : List ℕ) (x : Play) → Playing b x → wordAt b (finishOf b x) ≡ 0
 finish-ends b x w = ends (leftOver (x .run)) b x w (omega arith)
-
--- one turn of the loop, over plain variables
-pub record Turn (b : List ℕ) (x y : Play) : Type 0 where
-  pub playing : Playing b y
-  pub fewer : leftOver (y .run) + 1 ≡ leftOver (x .run)
-  pub same : finishOf b x ≡ finishOf b y
 
 pub tasks-few : (tasks : ℕ) → tasksIn tasks ≤ 16
 tasks-few tasks = elim (split (ltb tasks 16)) [ passes p ↦ rw p (omega (arith, ltb-true tasks 16 p)) | fails p ↦ rw p (omega arith) ]

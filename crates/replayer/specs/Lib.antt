@@ -1,12 +1,19 @@
 pub mod Alike
 pub mod AlikeTurn
 pub mod All
+pub mod Columns
+pub mod ColumnsLaws
+pub mod ColumnsTurn
 pub mod Dones
+pub mod Each
 pub mod Finish
 pub mod FinishLaws
+pub mod FinishTurn
 pub mod InPlace
 pub mod Left
 pub mod Look
+pub mod Lowest
+pub mod LowestLaws
 pub mod Memory
 pub mod Met
 pub mod Moved
@@ -20,6 +27,9 @@ pub mod OrderingAt
 pub mod ReadyLaws
 pub mod ReadyOf
 pub mod Run
+pub mod Schedule
+pub mod ScheduleLaws
+pub mod ScheduleTurn
 pub mod Sound
 pub mod StepLaws
 pub mod StepOf
@@ -27,6 +37,5 @@ pub mod StepTurn
 pub mod ToEnd
 pub mod ToEndTurn
 pub mod Visit
-pub mod VisitLaws
 pub mod Word
 pub mod WordLaws

@@ -2,7 +2,7 @@
 ghost use mathlib.Core.Path.{_≡_};
 ghost use Rattle.replayer.specs.Alike.{refusedCompared, sameEntries, alikeOf, sameOutcomeOf};
 use crate::finish::Played;
-use crate::finish::finished;
+use crate::finish::all_done;
 use crate::to_end::play;
 use codec::number::ENTRIES;
 use reader::survey::survey;
@@ -44,10 +44,10 @@ fn alike(x: Played, y: Played, memory: bool) -> bool
 {
     let first = x.run;
     let second = y.run;
-    if !finished(first) {
+    if !all_done(first) {
         return false;
     }
-    if !finished(second) {
+    if !all_done(second) {
         return false;
     }
     if first.tasks != second.tasks {

@@ -6,8 +6,8 @@ ghost use Rattle.reader.specs.Parse.{parse};
 ghost use Rattle.replayer.specs.Finish.{shownPlay};
 ghost use Rattle.replayer.specs.ToEnd.{playOf, refusedEnd, toEndOf};
 use crate::finish::Played;
+use crate::finish::all_done;
 use crate::finish::finish;
-use crate::finish::finished;
 use crate::start::begin;
 use codec::number::ENTRIES;
 use reader::survey::Layout;
@@ -60,6 +60,6 @@ pub fn replay_to_end(bytes: &[u8], memory: &mut [u32]) -> Replayed
         number: 0,
         offset: 0,
         steps: p.steps,
-        finished: finished(run),
+        finished: all_done(run),
     }
 }

@@ -16,7 +16,7 @@ use reader::entry::entry_at;
 
 // What stands next for a task, held where it has no accesses left. The note of a task is the place of the access's record, and the place
 // of the first ordering before it that was not met. A step leads past that record, and so it ends the note.
-pub fn visit(
+pub(crate) fn visit(
     x: TaskRun,
     bytes: &[u8],
     limits: Limits,

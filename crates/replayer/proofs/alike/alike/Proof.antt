@@ -9,24 +9,24 @@ use Rattle.replayer.proofs.alike.alike.Tie as tie
 
 -- both runs have finished
 first-done : (c : tie.Else1) → finishedOf (c .before .before .before .before .args .x .run) ≡ true
-first-done c = sym (c .before .finished .ensures) ∙ not-false _ (c .if1 .left)
+first-done c = sym (c .before .all-done .ensures) ∙ not-false _ (c .if1 .left)
 
 second-done : (c : tie.Else2) → finishedOf (c .before .before .before .before .before .before .args .y .run) ≡ true
-second-done c = sym (c .before .finished2 .ensures) ∙ not-false _ (c .if2 .left)
+second-done c = sym (c .before .all-done2 .ensures) ∙ not-false _ (c .if2 .left)
 
-finished-requires : tie.Need-finished-requires
-finished-requires c κs = search needs
+all-done-requires : tie.Need-all-done-requires
+all-done-requires c κs = search needs
 
 returns : tie.Need-returns
 unfolding alikeOf
-returns c = rw (sym (c .before .finished .ensures) ∙ not-true _ (c .if1 .taken))
+returns c = rw (sym (c .before .all-done .ensures) ∙ not-true _ (c .if1 .taken))
 
-finished-requires-2 : tie.Need-finished-requires-2
-finished-requires-2 c κs = search needs
+all-done-requires-2 : tie.Need-all-done-requires-2
+all-done-requires-2 c κs = search needs
 
 returns-2 : tie.Need-returns-2
 unfolding alikeOf
-returns-2 c = rw (first-done (c .before .before), sym (c .before .finished2 .ensures) ∙ not-true _ (c .if2 .taken))
+returns-2 c = rw (first-done (c .before .before), sym (c .before .all-done2 .ensures) ∙ not-true _ (c .if2 .taken))
 
 returns-3 : tie.Need-returns-3
 unfolding alikeOf
@@ -54,9 +54,9 @@ pub alike-spec : {M : Type 1} → statement M
 alike-spec =
     tie.close
     (tie.spec
-    finished-requires
+    all-done-requires
     returns
-    finished-requires-2
+    all-done-requires-2
     returns-2
     returns-3
     returns-4

@@ -1,21 +1,19 @@
-use mathlib.Core.Path.{_≡_, refl, _∙_}
-use native.Mathlib.Omega.{arith}
-use Prim.Native.Nat.{ℕ, _-_, _≤_, _<_}
-use lib.ListN.{length, getD, length-set}
-use Rattle.replayer.specs.Dones.{dones-turn, dones-whole}
+use mathlib.Core.Path.{refl}
+use Prim.Native.Nat.{_-_}
+use Rattle.replayer.specs.Each.{Filled, filled-none, filled-more, filled-all}
 use Rattle.replayer.specs.Run.{doneOf}
 use borrow.Author.Needs.{needs}
 use Rattle.replayer.proofs.next.dones_of.Statement.{statement}
 use Rattle.replayer.proofs.next.dones_of.Tie as tie
 
 abbrev Inv-loop : tie.InvT-loop
-Inv-loop run dones₀ t₀ dones t = (t ≤ 16) × (length dones ≡ 16) × ((k : ℕ) → k < t → getD dones k 0 ≡ doneOf (run .runs) k)
+Inv-loop run dones₀ t₀ dones t = Filled (doneOf (run .runs)) 16 dones t
 
 abbrev μ-loop : tie.MeasureT-loop
 μ-loop run dones₀ t₀ dones t = 16 - t
 
 loop-holds : tie.Need-loop-holds Inv-loop μ-loop
-loop-holds c = (omega arith, refl, λ k h. absurd (omega arith))
+loop-holds c = filled-none _ _ _ refl
 
 mul-x : tie.Need-mul-x Inv-loop μ-loop
 mul-x c = search needs
@@ -36,10 +34,10 @@ loop-less : tie.Need-loop-less Inv-loop μ-loop
 loop-less c = search needs
 
 loop-again : tie.Need-loop-again Inv-loop μ-loop
-loop-again c = let l = c .before .before .loop in (omega arith, length-set (l .dones) (l .t) _ ∙ l .inv .1, dones-turn (c .before .before .before .args .t1 .runs) (l .dones) (l .t) (omega arith) (l .inv .2))
+loop-again c = filled-more _ _ _ (c .before .before .loop .t) (c .before .loop-test .taken) (c .before .before .loop .inv)
 
 returns : tie.Need-returns Inv-loop μ-loop
-returns c = let l = c .before .loop in dones-whole (c .before .before .args .t1 .runs) (l .dones) (l .inv .1) (λ k h. l .inv .2 k (omega arith))
+returns c = filled-all _ _ _ (c .before .loop .t) (c .loop-test .left) (c .before .loop .inv)
 
 pub dones-of-spec : {M : Type 1} → statement M
 dones-of-spec =

@@ -32,8 +32,8 @@ returns-2 c = let a = c .before .before .before .before .before .before .before 
 play-requires : tie.Need-play-requires
 play-requires c κs = (c .before .before .before .before .before .survey .ensures, c .before .before .before .if1 .left, c .before .if2 .left)
 
-finished-requires : tie.Need-finished-requires
-finished-requires c κs = search needs
+all-done-requires : tie.Need-all-done-requires
+all-done-requires c κs = search needs
 
 same-length : tie.Need-same-length
 same-length c = c .before .before .before .before .play .kept .1 .1 .0
@@ -41,7 +41,7 @@ same-length c = c .before .before .before .before .play .kept .1 .1 .0
 returns-3 : tie.Need-returns-3
 returns-3 c = let a = c .before .before .before .before .before .before .before .before .before .before .before .before .before .args in
     let p = c .before .before .before .before .play in
-    parts (ends-so (playOf (now (a .bytes)) (now (a .memory))) (p .result) (c .finished .result) (p .last .1 .1 .0) (p .ensures .0) (c .finished .ensures) (p .ensures .1)
+    parts (ends-so (playOf (now (a .bytes)) (now (a .memory))) (p .result) (c .all-done .result) (p .last .1 .1 .0) (p .ensures .0) (c .all-done .ensures) (p .ensures .1)
     ∙ end-plays (now (a .bytes)) (now (a .memory)) (c .before .before .before .before .before .before .before .before .before .before .survey .result) (c .before .before .before .before .before .before .before .before .before .before .survey .ensures) (c .before .before .before .before .before .before .before .before .if1 .left) (c .before .before .before .before .before .before .if2 .left))
 
 pub replay-to-end-spec : {M : Type 1} → statement M
@@ -54,6 +54,6 @@ replay-to-end-spec =
     refused-requires-2
     returns-2
     play-requires
-    finished-requires
+    all-done-requires
     same-length
     returns-3)
