@@ -1,5 +1,6 @@
 // The recordings of data/ played and compared: the runs of the bench that no theorem has, the run that sticks among them.
-use transcript::answer;
+use transcript::space;
+use transcript::tell;
 
 // A recording's name, and then what the replay program writes of it.
 fn play_file(path: &[u8]) {
@@ -13,7 +14,9 @@ fn play_file(path: &[u8]) {
     libc::close(fd);
     io::write_all(1, path);
     io::write_all(1, b"\n");
-    answer(&bytes[..n]);
+    let mut out = space();
+    let end = tell(&bytes[..n], &mut out);
+    io::write_all(1, &out[..end]);
 }
 
 fn play_argument(i: usize) {

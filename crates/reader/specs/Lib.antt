@@ -1,3 +1,4 @@
+pub mod Accesses
 pub mod Answers
 pub mod Bodies
 pub mod Body
@@ -7,6 +8,7 @@ pub mod CallTurn
 pub mod Calls
 pub mod Entry
 pub mod EntryCase
+pub mod EntryFits
 pub mod HeadTurn
 pub mod Joined
 pub mod Laid

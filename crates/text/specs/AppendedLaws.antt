@@ -4,7 +4,8 @@ use mathlib.Core.List.{List, [], _∷_, _++_, append-assoc, append-nil}
 use Prim.Native.Nat.{ℕ, _+_, _-_, _≤_}
 use native.Mathlib.Omega.{arith}
 use lib.ListN.{length, set, take, drop, length-append, length-drop, drop-of-length-le}
-use lib.Seq.{take-length, drop-drop}
+use lib.Seq.{take-length, drop-drop, length-take-le}
+use Rattle.io.specs.Counts.{Counts}
 use Rattle.codec.specs.Store.{store-none, store-cons, store-length, store-append, store-split}
 use Rattle.text.specs.Appended.{Appended}
 
@@ -24,6 +25,10 @@ joined {s} {t} {l} {at} a b = record {
 -- a buffer keeps its length
 pub same-room : {text before : List ℕ} {at : ℕ} {after : List ℕ} {end : ℕ} → Appended text before at after end → length after ≡ length before
 same-room {text} {before} {at} a = ap length (a .filled) ∙ store-length before at text
+
+-- a text at the start of a buffer can be handed on as its first bytes
+pub counted : {text before : List ℕ} {after : List ℕ} {end : ℕ} → Appended text before 0 after end → length text ≤ length before → Counts end after
+counted {text} {after = after} {end = end} a h = let w : end ≤ length after = omega (arith, a .behind, same-room a) in (w, sym (length-take-le _ _ w))
 
 -- a text copied to the start of the part from a place on
 pub copied : (l text part : List ℕ) (at : ℕ) → at + length text ≤ length l

@@ -1,7 +1,7 @@
 -- How many digits a number has, and that the kit's digits are these.
 use mathlib.Core.Path.{_≡_, refl}
 use mathlib.Core.Bool.{Bool, true, false, cond}
-use mathlib.Core.List.{List, [], _∷_, _++_}
+use mathlib.Core.List.{[], _∷_, _++_}
 use Prim.Native.Nat.{ℕ, zero, suc, _+_, _*_, _-_, _/_, _%_, _^_, _<_, _≤_}
 use native.Mathlib.Nat.{pow-suc, pow-le-pow-right, mod-lt, mod-eq-of-lt, le-div-iff-mul-le, div-lt-iff-lt-mul}
 use native.Mathlib.Omega.{arith}
@@ -55,7 +55,7 @@ decimal-so n zero h f = absurd (omega (arith, f .0))
 decimal-so n (suc j) h f = let e : suc j - 1 ≡ j = omega arith in fewest-digits j 20 n (f .1) (λ g. rw e at (f .2 g)) (omega (arith, short n (suc j) h f))
 
 -- a number below a power of ten has no more digits than its exponent
-pub digits-few : (k j n : ℕ) → n < 10 ^ suc j → length (digitsWithin k n) ≤ suc j
+digits-few : (k j n : ℕ) → n < 10 ^ suc j → length (digitsWithin k n) ≤ suc j
 unfolding digitsWithin
 digits-few zero j n h = omega arith
 digits-few (suc k) zero n h = let b : n < 10 = h in rw (lt-ltb n 10 b) (omega arith)
@@ -67,6 +67,9 @@ digits-few (suc k) (suc j) n h =
     go : length (digitsWithin k (n / 10)) ≤ suc j → (b : Bool) → length (cond b ((48 + n) ∷ []) (digitsWithin k (n / 10) ++ ((48 + n % 10) ∷ []))) ≤ suc (suc j)
     go i true = omega arith
     go i false = omega (arith, length-append (digitsWithin k (n / 10)) ((48 + n % 10) ∷ []))
+
+pub decimal-few : (j n : ℕ) → n < 10 ^ suc j → length (decimalOf n) ≤ suc j
+decimal-few j n h = digits-few 20 j n h
 
 pub field-length : (n b : ℕ) → length (fieldOf n b) ≡ length (decimalOf n) + 1
 field-length n b = length-append (decimalOf n) (b ∷ [])

@@ -1,15 +1,15 @@
-// The lines that the program writes.
+// The lines that the program writes, each put into the output at a place; answered is the place behind it.
 ghost use mathlib.Core.Path.{_≡_};
-ghost use Prim.Native.Nat.{_+_, _*_, _≤_};
+ghost use Prim.Native.Nat.{_+_, _≤_};
 ghost use lib.ListN.{length};
-ghost use Rattle.transcript.specs.Appended.{Appended};
+ghost use Rattle.text.specs.Appended.{Appended};
 ghost use Rattle.transcript.specs.Lines.{letterOf, lineOf, endOf, refusalOf, memoryOf};
-use crate::text::put_byte;
-use crate::text::put_bytes;
-use crate::text::put_field;
-use crate::text::put_number;
 use codec::kind::READ;
 use replayer::Stepped;
+use text::put_byte;
+use text::put_bytes;
+use text::put_field;
+use text::put_number;
 
 fn letter(kind: u16) -> u8
     ensures { λ r. ⌜ r ≡ letterOf kind ⌝ }
@@ -19,9 +19,8 @@ fn letter(kind: u16) -> u8
 
 // Task, number of the access, R or W, object, value.
 pub(crate) fn put_step(out: &mut [u8], at: usize, task: usize, s: Stepped) -> usize
-    requires { ⌜ at + 86 ≤ length (now out) ⌝ }
+    requires { ⌜ at + length (lineOf task s) ≤ length (now out) ⌝ }
     ensures { λ r. ⌜ Appended (lineOf task s) (now (out .entry)) at (now (out .exit)) r ⌝ }
-    ensures { λ r. ⌜ r ≤ at + 86 ⌝ }
 {
     let a = put_field(out, at, task as u64, b' ');
     let b = put_field(out, a, s.access as u64, b' ');
@@ -32,9 +31,8 @@ pub(crate) fn put_step(out: &mut [u8], at: usize, task: usize, s: Stepped) -> us
 }
 
 pub(crate) fn put_end(out: &mut [u8], at: usize, finished: bool, steps: usize) -> usize
-    requires { ⌜ at + 27 ≤ length (now out) ⌝ }
+    requires { ⌜ at + length (endOf finished steps) ≤ length (now out) ⌝ }
     ensures { λ r. ⌜ Appended (endOf finished steps) (now (out .entry)) at (now (out .exit)) r ⌝ }
-    ensures { λ r. ⌜ r ≤ at + 27 ⌝ }
 {
     if finished {
         let end = put_bytes(out, at, b"end ");
@@ -45,9 +43,8 @@ pub(crate) fn put_end(out: &mut [u8], at: usize, finished: bool, steps: usize) -
 }
 
 pub(crate) fn put_values(out: &mut [u8], at: usize, memory: &[u32]) -> usize
-    requires { ⌜ at + 7 + 21 * length (now memory) ≤ length (now out) ⌝ }
+    requires { ⌜ at + length (memoryOf (now memory)) ≤ length (now out) ⌝ }
     ensures { λ r. ⌜ Appended (memoryOf (now (memory .entry))) (now (out .entry)) at (now (out .exit)) r ⌝ }
-    ensures { λ r. ⌜ r ≤ length (now (out .entry)) ⌝ }
 {
     let mut end = put_bytes(out, at, b"memory");
     for i in 0..memory.len() {
@@ -58,9 +55,8 @@ pub(crate) fn put_values(out: &mut [u8], at: usize, memory: &[u32]) -> usize
 }
 
 pub(crate) fn put_refusal(out: &mut [u8], at: usize, number: u32, offset: usize) -> usize
-    requires { ⌜ at + 50 ≤ length (now out) ⌝ }
+    requires { ⌜ at + length (refusalOf number offset) ≤ length (now out) ⌝ }
     ensures { λ r. ⌜ Appended (refusalOf number offset) (now (out .entry)) at (now (out .exit)) r ⌝ }
-    ensures { λ r. ⌜ r ≤ at + 50 ⌝ }
 {
     let a = put_bytes(out, at, b"refused ");
     let b = put_field(out, a, number as u64, b' ');

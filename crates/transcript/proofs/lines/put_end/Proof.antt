@@ -1,6 +1,7 @@
 use native.Mathlib.Omega.{arith}
-use Rattle.transcript.specs.Appended.{joined}
+use Rattle.text.specs.AppendedLaws.{joined}
 use Rattle.transcript.specs.Lines.{endOf}
+use Rattle.transcript.specs.LinesLaws.{end-length, stuck-length}
 use borrow.Author.Needs.{needs}
 use Rattle.transcript.proofs.lines.put_end.Statement.{statement}
 use Rattle.transcript.proofs.lines.put_end.Tie as tie
@@ -9,33 +10,33 @@ slice-aggregate-put-bytes : tie.Need-slice-aggregate-put-bytes
 slice-aggregate-put-bytes c = search needs
 
 put-bytes-requires : tie.Need-put-bytes-requires
-put-bytes-requires c κs = search needs
+put-bytes-requires c κs = omega (arith, rw (c .before .before .if1 .taken) at (c .before .before .before .before .pre), end-length (c .before .before .before .before .args .steps))
 
 put-field-requires : tie.Need-put-field-requires
-put-field-requires c κs = search needs
+put-field-requires c κs = omega (arith, rw (c .before .before .before .before .before .before .if1 .taken) at (c .before .before .before .before .before .before .before .before .pre), end-length (c .before .before .before .before .before .before .before .before .args .steps))
 
 same-length : tie.Need-same-length
 same-length c = search needs
 
 returns : tie.Need-returns
 unfolding endOf
-returns c = (rw (c .before .before .before .before .before .before .before .before .before .if1 .taken) (joined _ _ _ _ _ _ _ _ (c .before .before .before .before .before .before .put-bytes .ensures) (c .before .before .put-field .ensures .0)), omega arith)
+returns c = rw (c .before .before .before .before .before .before .before .before .before .if1 .taken) (joined (c .before .before .before .before .before .before .put-bytes .ensures) (c .before .before .put-field .ensures))
 
 slice-aggregate-put-bytes-2 : tie.Need-slice-aggregate-put-bytes-2
 slice-aggregate-put-bytes-2 c = search needs
 
 put-bytes-requires-2 : tie.Need-put-bytes-requires-2
-put-bytes-requires-2 c κs = search needs
+put-bytes-requires-2 c κs = omega (arith, rw (c .before .before .if1 .left) at (c .before .before .before .before .pre), stuck-length (c .before .before .before .before .args .steps))
 
 put-field-requires-2 : tie.Need-put-field-requires-2
-put-field-requires-2 c κs = search needs
+put-field-requires-2 c κs = omega (arith, rw (c .before .before .before .before .before .before .if1 .left) at (c .before .before .before .before .before .before .before .before .pre), stuck-length (c .before .before .before .before .before .before .before .before .args .steps))
 
 same-length-2 : tie.Need-same-length-2
 same-length-2 c = search needs
 
 returns-2 : tie.Need-returns-2
 unfolding endOf
-returns-2 c = (rw (c .before .before .before .before .before .before .before .before .before .if1 .left) (joined _ _ _ _ _ _ _ _ (c .before .before .before .before .before .before .put-bytes2 .ensures) (c .before .before .put-field2 .ensures .0)), omega arith)
+returns-2 c = rw (c .before .before .before .before .before .before .before .before .before .if1 .left) (joined (c .before .before .before .before .before .before .put-bytes2 .ensures) (c .before .before .put-field2 .ensures))
 
 pub put-end-spec : {M : Type 1} → statement M
 put-end-spec =
