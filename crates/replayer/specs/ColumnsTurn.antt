@@ -25,9 +25,15 @@ pub columned-none : (b : List ℕ) (r : Run) (k : Columns) → k ≡ columnsOf r
     → Columned b (r .tasks) (r .objects) (k .places) (k .ends) (k .dones) (k .counts) (replicate 16 0) (replicate 16 0)
 columned-none b r k e = record { places-all = rw e (each-length (placeOf (r .runs)) 16); dones-all = rw e (each-length (doneOf (r .runs)) 16); noted = noted-none _ b }
 
+-- the notes after a visit
+pub columned-noted : {b : List ℕ} {tasks objects : ℕ} {places ends dones counts scans ats visited-scans visited-ats : List ℕ}
+    → Columned b tasks objects places ends dones counts scans ats → Noted (runOf tasks objects places ends dones counts) b visited-scans visited-ats
+    → Columned b tasks objects places ends dones counts visited-scans visited-ats
+columned-noted w n = record { places-all = w .places-all; dones-all = w .dones-all; noted = n }
+
 -- a step of the next task
-module _ (b : List ℕ) (tasks objects : ℕ) (places ends dones counts scans ats : List ℕ) (s : soundOf (runOf tasks objects places ends dones counts) (length b) ≡ true)
-    (w : Columned b tasks objects places ends dones counts scans ats) (t : ℕ) (op : Op) (next access : ℕ)
+module _ {b : List ℕ} {tasks objects : ℕ} {places ends dones counts scans ats : List ℕ} (s : soundOf (runOf tasks objects places ends dones counts) (length b) ≡ true)
+    (w : Columned b tasks objects places ends dones counts scans ats) {t : ℕ} {op : Op} {next access : ℕ}
     (n : IsNext (runOf tasks objects places ends dones counts) b t op next × (access ≡ doneOf (runOf tasks objects places ends dones counts .runs) t + 1)) where
   pub columned-moved : runOf tasks objects (set places t next) ends (set dones t access) counts ≡ movedOf (runOf tasks objects places ends dones counts) t next
   columned-moved = columns-moved tasks objects places ends dones counts (w .dones-all) t next access (n .0 .few) (w .places-all) (n .1)

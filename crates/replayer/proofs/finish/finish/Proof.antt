@@ -5,7 +5,7 @@ use lib.ListN.{length, set}
 use denote.Ref.{now}
 use Rattle.replayer.specs.Columns.{runOf}
 use Rattle.replayer.specs.ColumnsLaws.{columns-back}
-use Rattle.replayer.specs.ColumnsTurn.{Columned, columned-none, columned-moved, columned-on}
+use Rattle.replayer.specs.ColumnsTurn.{Columned, columned-none, columned-noted, columned-moved, columned-on}
 use Rattle.replayer.specs.Finish.{Play, leftOver}
 use Rattle.replayer.specs.FinishTurn.{Going, going-start, step-object, going-on, going-end}
 use Rattle.replayer.specs.LowestLaws.{IsNext, found-next, found-none}
@@ -36,13 +36,7 @@ next : (c : tie.After-known-told Inv-loop μ-loop) →
     IsNext (here (c .before .before .before .before .before .before .before .before .before .before) .run) (now (c .before .before .before .before .before .before .before .before .before .before .before .before .before .before .before .before .before .before .args .bytes)) (g .0) (g .1 .0) (g .1 .1 .0 .place) × (g .1 .1 .0 .done ≡ doneOf (here (c .before .before .before .before .before .before .before .before .before .before) .run .runs) (g .0) + 1)
 next c = found-next _ _ (c .before .before .before .before .before .before .before .before .before .before .loop .inv .2 .playing .sound) _ _ _ _ (c .before .before .before .lowest .ensures .0) (c .before .n .given .1)
 
--- the columns and the play behind its step
-noted : (c : tie.After-known-told Inv-loop μ-loop) →
-    let k = c .before .before .before .before .before .before .before .before .before .before .before .before .before .before .before .columns-of .result in
-    let g = c .before .n .given .0 in
-    Columned (now (c .before .before .before .before .before .before .before .before .before .before .before .before .before .before .before .before .before .before .args .bytes)) (c .before .before .before .before .before .before .before .before .before .before .before .before .before .before .before .before .before .before .args .run .tasks) (c .before .before .before .before .before .before .before .before .before .before .before .before .before .before .before .before .before .before .args .run .objects) (c .before .before .before .before .before .before .before .before .before .before .loop .places) (k .ends) (c .before .before .before .before .before .before .before .before .before .before .loop .dones) (k .counts) (c .before .before .before .lowest .last .1 .1 .1 .1 .1 .1 .1 .0) (c .before .before .before .lowest .last .1 .1 .1 .1 .1 .1 .1 .1 .0)
-noted c = record { places-all = c .before .before .before .before .before .before .before .before .before .before .loop .inv .0 .places-all; dones-all = c .before .before .before .before .before .before .before .before .before .before .loop .inv .0 .dones-all; noted = c .before .before .before .lowest .ensures .1 }
-
+-- the play behind its step
 on : (c : tie.After-perform Inv-loop μ-loop) →
     let k = c .before .before .before .before .before .before .before .before .before .before .before .before .before .before .before .before .before .columns-of .result in
     let g = c .before .before .before .n .given .0 in
@@ -50,7 +44,7 @@ on : (c : tie.After-perform Inv-loop μ-loop) →
     (record { run = runOf (c .before .before .before .before .before .before .before .before .before .before .before .before .before .before .before .before .before .before .before .before .args .run .tasks) (c .before .before .before .before .before .before .before .before .before .before .before .before .before .before .before .before .before .before .before .before .args .run .objects) (set (c .before .before .before .before .before .before .before .before .before .before .before .before .loop .places) (g .0) (g .1 .1 .0 .place)) (k .ends) (set (c .before .before .before .before .before .before .before .before .before .before .before .before .loop .dones) (g .0) (g .1 .1 .0 .done)) (k .counts); memory = c .perform .last .1 .0; steps = c .before .before .before .before .before .before .before .before .before .before .before .before .loop .steps + 1 })
 on c =
     let i = c .before .before .before .before .before .before .before .before .before .before .before .before .loop .inv in
-    going-on _ _ _ (i .2) _ _ _ (next (c .before .before) .0) _ _ (columned-moved _ _ _ _ _ _ _ _ _ (i .2 .playing .sound) (noted (c .before .before)) _ _ _ _ (next (c .before .before))) (c .perform .ensures .1)
+    going-on _ _ _ (i .2) _ _ _ (next (c .before .before) .0) _ _ (columned-moved (i .2 .playing .sound) (i .0) (next (c .before .before))) (c .perform .ensures .1)
 
 columns-of-requires : tie.Need-columns-of-requires Inv-loop μ-loop
 columns-of-requires c κs = search needs
@@ -98,7 +92,7 @@ loop-less : tie.Need-loop-less Inv-loop μ-loop
 loop-less c = omega (arith, on (c .before .before) .steps, c .before .before .before .before .before .before .before .before .before .before .before .before .before .before .loop .inv .2 .steps)
 
 loop-again : tie.Need-loop-again Inv-loop μ-loop
-loop-again c = let i = c .before .before .before .before .before .before .before .before .before .before .before .before .before .before .loop .inv in (columned-on _ _ _ _ _ _ _ _ _ (i .2 .playing .sound) (noted (c .before .before .before .before)) _ _ _ _ (next (c .before .before .before .before)), c .before .memory .given ∙ i .1, on (c .before .before))
+loop-again c = let i = c .before .before .before .before .before .before .before .before .before .before .before .before .before .before .loop .inv in (columned-on (i .2 .playing .sound) (columned-noted (i .0) (c .before .before .before .before .before .before .before .lowest .ensures .1)) (next (c .before .before .before .before)), c .before .memory .given ∙ i .1, on (c .before .before))
 
 pub finish-spec : {M : Type 1} → statement M
 finish-spec =

@@ -8,7 +8,7 @@ use borrow.Author.Tests.{not-true, not-false}
 use Rattle.replayer.specs.declared.Run.{Run}
 use Rattle.replayer.specs.Columns.{runOf}
 use Rattle.replayer.specs.ColumnsLaws.{columns-back}
-use Rattle.replayer.specs.ColumnsTurn.{Columned, columned-none, columned-moved, columned-sound, columned-on}
+use Rattle.replayer.specs.ColumnsTurn.{Columned, columned-none, columned-noted, columned-moved, columned-sound, columned-on}
 use Rattle.replayer.specs.LowestLaws.{IsNext, found-next, found-none}
 use Rattle.replayer.specs.Moved.{Shaped}
 use Rattle.replayer.specs.Run.{doneOf, movedOf}
@@ -47,17 +47,12 @@ next : (c : tie.After-known-told Inv-loop μ-loop) →
     IsNext (here (c .before .before .before .before .before .before .before .before .before .before .before)) (now (c .before .before .before .before .before .before .before .before .before .before .before .before .before .before .before .before .before .before .before .before .before .args .bytes)) (g .0) (g .1 .0) (g .1 .1 .0 .place) × (g .1 .1 .0 .done ≡ doneOf (here (c .before .before .before .before .before .before .before .before .before .before .before) .runs) (g .0) + 1)
 next c = found-next _ _ (c .before .before .before .before .before .before .before .before .before .before .before .loop .inv .1) _ _ _ _ (c .before .before .before .lowest .ensures .0) (c .before .n .given .1)
 
--- the columns with the notes after it, and the run behind its step
-noted : (c : tie.After-known-told Inv-loop μ-loop) →
-    let k = c .before .before .before .before .before .before .before .before .before .before .before .before .before .before .before .before .columns-of .result in
-    Columned (now (c .before .before .before .before .before .before .before .before .before .before .before .before .before .before .before .before .before .before .before .before .before .args .bytes)) (c .before .before .before .before .before .before .before .before .before .before .before .before .before .before .before .before .before .before .before .before .before .args .run .tasks) (c .before .before .before .before .before .before .before .before .before .before .before .before .before .before .before .before .before .before .before .before .before .args .run .objects) (c .before .before .before .before .before .before .before .before .before .before .before .loop .places) (k .ends) (c .before .before .before .before .before .before .before .before .before .before .before .loop .dones) (k .counts) (c .before .before .before .lowest .last .1 .1 .1 .1 .1 .1 .1 .0) (c .before .before .before .lowest .last .1 .1 .1 .1 .1 .1 .1 .1 .0)
-noted c = record { places-all = c .before .before .before .before .before .before .before .before .before .before .before .loop .inv .0 .places-all; dones-all = c .before .before .before .before .before .before .before .before .before .before .before .loop .inv .0 .dones-all; noted = c .before .before .before .lowest .ensures .1 }
-
+-- the run behind its step
 moved : (c : tie.After-known-told Inv-loop μ-loop) →
     let k = c .before .before .before .before .before .before .before .before .before .before .before .before .before .before .before .before .columns-of .result in
     let g = c .before .n .given .0 in
     runOf (c .before .before .before .before .before .before .before .before .before .before .before .before .before .before .before .before .before .before .before .before .before .args .run .tasks) (c .before .before .before .before .before .before .before .before .before .before .before .before .before .before .before .before .before .before .before .before .before .args .run .objects) (set (c .before .before .before .before .before .before .before .before .before .before .before .loop .places) (g .0) (g .1 .1 .0 .place)) (k .ends) (set (c .before .before .before .before .before .before .before .before .before .before .before .loop .dones) (g .0) (g .1 .1 .0 .done)) (k .counts) ≡ movedOf (here (c .before .before .before .before .before .before .before .before .before .before .before)) (g .0) (g .1 .1 .0 .place)
-moved c = columned-moved _ _ _ _ _ _ _ _ _ (c .before .before .before .before .before .before .before .before .before .before .before .loop .inv .1) (noted c) _ _ _ _ (next c)
+moved c = columned-moved (c .before .before .before .before .before .before .before .before .before .before .before .loop .inv .1) (c .before .before .before .before .before .before .before .before .before .before .before .loop .inv .0) (next c)
 
 sound-requires : tie.Need-sound-requires Inv-loop μ-loop
 sound-requires c κs = search needs
@@ -111,7 +106,7 @@ loop-less : tie.Need-loop-less Inv-loop μ-loop
 loop-less c = simp length-set (omega (arith, c .before .before .before .before .before .before .before .before .before .before .loop-test .taken))
 
 loop-again : tie.Need-loop-again Inv-loop μ-loop
-loop-again c = let i = c .before .before .before .before .before .before .before .before .before .before .before .loop .inv in (columned-on _ _ _ _ _ _ _ _ _ (i .1) (noted c) _ _ _ _ (next c), columned-sound _ _ _ _ _ _ _ _ _ (i .1) (noted c) _ _ _ _ (next c), writing-more _ _ _ _ _ _ (i .2) _ _ _ (c .before .before .before .before .before .before .before .before .before .before .loop-test .taken) (next c .0) _ (moved c))
+loop-again c = let i = c .before .before .before .before .before .before .before .before .before .before .before .loop .inv in (columned-on (i .1) (columned-noted (i .0) (c .before .before .before .lowest .ensures .1)) (next c), columned-sound (i .1) (i .0) (next c), writing-more _ _ _ _ _ _ (i .2) _ _ _ (c .before .before .before .before .before .before .before .before .before .before .loop-test .taken) (next c .0) _ (moved c))
 
 same-length-2 : tie.Need-same-length-2 Inv-loop μ-loop
 same-length-2 c = c .before .loop .inv .2 .long
