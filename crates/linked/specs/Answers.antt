@@ -15,6 +15,7 @@ use Rattle.replayer.specs.declared.Stepped.{Stepped}
 use Rattle.replayer.specs.declared.alike.Compared.{Compared}
 use Rattle.replayer.specs.declared.to_end.Replayed.{Replayed}
 use Rattle.replayer.specs.Word.{bit, readyCount, lowestReady}
+use Rattle.linked.specs.CopyOf.{Copied}
 
 abbrev pub openNumbers : Opened → List ℕ
 openNumbers a = a .number ∷ a .written ∷ []
@@ -27,6 +28,9 @@ sectionNumbers a = a .number ∷ a .offset ∷ a .written ∷ []
 
 abbrev pub checkNumbers : Checked → List ℕ
 checkNumbers a = a .number ∷ a .offset ∷ []
+
+abbrev pub copyNumbers : Copied → List ℕ
+copyNumbers a = a .number ∷ a .offset ∷ a .written ∷ []
 
 abbrev pub replayOpenNumbers : ReplayOpened → List ℕ
 replayOpenNumbers a = a .number ∷ a .offset ∷ []
