@@ -9,6 +9,7 @@ use Rattle.reader.specs.declared.Checked.{Checked}
 use Rattle.recorder.specs.declared.Opened.{Opened}
 use Rattle.recorder.specs.declared.Accessed.{Accessed}
 use Rattle.recorder.specs.declared.Sectioned.{Sectioned}
+use Rattle.recorder.specs.declared.pack.Packed.{Packed}
 use Rattle.replayer.specs.declared.Opened.{Opened as ReplayOpened}
 use Rattle.replayer.specs.declared.ReadyWord.{ReadyWord}
 use Rattle.replayer.specs.declared.Stepped.{Stepped}
@@ -25,6 +26,9 @@ accessNumbers a = a .number ∷ a .value ∷ a .row ∷ a .class ∷ a .written 
 
 abbrev pub sectionNumbers : Sectioned → List ℕ
 sectionNumbers a = a .number ∷ a .offset ∷ a .written ∷ []
+
+abbrev pub packNumbers : Packed → List ℕ
+packNumbers a = a .number ∷ a .task ∷ a .offset ∷ a .written ∷ []
 
 abbrev pub checkNumbers : Checked → List ℕ
 checkNumbers a = a .number ∷ a .offset ∷ []

@@ -6,8 +6,6 @@ pub mod Halves
 pub mod HalvesBack
 pub mod HalvesTurn
 pub mod NoCase
-pub mod Packing
-pub mod PackingTurn
 pub mod Places
 pub mod PlacesBack
 pub mod PlacesTurn

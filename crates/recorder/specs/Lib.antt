@@ -5,6 +5,10 @@ pub mod LogTurn
 pub mod AccessTurn
 pub mod SectionOf
 pub mod SectionTurn
+pub mod PackOf
+pub mod PackTurn
+pub mod SectionBySection
+pub mod PackSections
 pub mod WholeRun
 pub mod Accepted
 pub mod Full
