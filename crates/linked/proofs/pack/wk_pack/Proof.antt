@@ -1,10 +1,7 @@
+use Rattle.codec.specs.Store.{store}
 use borrow.Author.Needs.{needs}
 use Rattle.linked.proofs.pack.wk_pack.Statement.{statement}
 use Rattle.linked.proofs.pack.wk_pack.Tie as tie
-use Rattle.linked.proofs.pack.wk_pack.Reads as reads
-use Rattle.linked.proofs.pack.wk_pack.Lts as lts
-use Rattle.linked.proofs.layout.state_of.Reads as state-of-reads
-use Rattle.recorder.proofs.pack.pack.Reads as pack-reads
 
 state-of-requires : tie.Need-state-of-requires
 state-of-requires c κs = search needs
@@ -31,7 +28,11 @@ same-length : tie.Need-same-length
 same-length c = search needs
 
 returns : tie.Need-returns
-returns c = ?
+unfolding store
+returns c =
+    let e = c .before .before .before .pack .ensures in
+    let b = c .before .before .before .before .before .state-of .ensures in
+    (rw (e .0, b), rw b at (e .1))
 
 pub wk-pack-spec : {M : Type 1} → statement M
 wk-pack-spec =
