@@ -1,6 +1,6 @@
 //! The other side of the calls that do many at once: what `crates/timed/src/lib.rt` and `crates/linked/src/pack.rt` do, by `peer.rs`.
 
-use crate::peer::{recorder, replayer};
+use crate::peer::{number, recorder, replayer};
 use crate::table::Script;
 
 fn mixed(digest: u64, x: u64) -> u64 {
@@ -36,14 +36,43 @@ pub fn script<const CHECK: bool>(script: &Script, memory: &mut [u32], out: &mut 
     })
 }
 
+/// The bytes written, section by section: for ends that are right, and room.
 #[inline(never)]
-pub fn pack(state: &recorder::State, logs: &[u8], ends: &[usize], out: &mut [u8]) -> usize {
+pub fn sections(state: &recorder::State, logs: &[u8], ends: &[usize], out: &mut [u8]) -> usize {
     let (mut from, mut at) = (0, 0);
     for (task, &to) in ends.iter().enumerate() {
         at += recorder::section(state, task, &logs[from..to], &mut out[at..]).written;
         from = to;
     }
     at
+}
+
+/// Number, task, offset and bytes written: 17, 21, the logs, 9, and nothing is written before all are checked.
+pub fn pack(state: &recorder::State, logs: &[u8], ends: &[usize], out: &mut [u8]) -> [usize; 4] {
+    if !state.is_sound() {
+        return [number::UNSOUND as usize, 0, 0, 0];
+    }
+    let places: Vec<usize> = std::iter::once(0).chain(ends.iter().copied()).collect();
+    let risen = places.windows(2).all(|two| two[0] <= two[1]);
+    if ends.len() != state.tasks || !risen || places[ends.len()] > logs.len() {
+        return [21, 0, 0, 0];
+    }
+    let parts = || places.windows(2).map(|two| &logs[two[0]..two[1]]).enumerate();
+    for (task, log) in parts() {
+        // Without any output a log that is right gives 9.
+        let s = recorder::section(state, task, log, &mut []);
+        if s.number != number::OUTPUT_TOO_SHORT {
+            return [s.number as usize, task, s.offset, 0];
+        }
+    }
+    let mut room = out.len();
+    for (task, log) in parts() {
+        match room.checked_sub(12 + log.len()) {
+            Some(left) => room = left,
+            None => return [number::OUTPUT_TOO_SHORT as usize, task, 0, 0],
+        }
+    }
+    [0, 0, 0, sections(state, logs, ends, out)]
 }
 
 /// Number, offset, steps and whether it finished. A scheduler of its own finds the lowest ready task.
