@@ -3,24 +3,25 @@
 use crate::peer::{number, recorder, replayer};
 use crate::table::Script;
 
+// The digest as `crates/timed/specs/Digest.antt` has it.
 fn mixed(digest: u64, x: u64) -> u64 {
-    digest.rotate_left(7) ^ x
+    31 * (digest % (1 << 58)) + x
 }
 
 fn access_word(a: &recorder::Accessed) -> u64 {
-    u64::from(a.value)
-        ^ u64::from(a.row) << 32
-        ^ (a.class as u64) << 36
-        ^ u64::from(a.number) << 40
-        ^ (a.written as u64) << 48
+    let above = u64::from(a.row)
+        + 16 * (a.class as u64)
+        + 8192 * u64::from(a.number % 32)
+        + 262_144 * (a.written as u64 % 256);
+    u64::from(a.value) + (above << 32)
 }
 
 fn step_word(task: usize, s: &replayer::Step) -> u64 {
-    u64::from(s.value)
-        ^ (task as u64) << 32
-        ^ u64::from(s.kind) << 36
-        ^ (s.object as u64) << 40
-        ^ u64::from(s.access) << 48
+    let above = (task as u64 % 16)
+        + 16 * u64::from(s.kind % 8)
+        + 128 * (s.object as u64 % 256)
+        + 32_768 * (u64::from(s.access) % 2048);
+    u64::from(s.value) + (above << 32)
 }
 
 /// With `CHECK` each access checks the whole state first, as document 01 asks.
