@@ -2,7 +2,7 @@
 //! and run after the call, are compared. What was lent is left as the call leaves it.
 
 use crate::ours::{self, Answer, State};
-use crate::peer::{reader, recorder, replayer};
+use crate::peer::{number, reader, recorder, replayer};
 use crate::theirs;
 use std::fmt::Debug;
 
@@ -113,6 +113,21 @@ impl Both {
         Ok(theirs.written)
     }
 
+    pub fn pack(
+        &mut self,
+        state: &recorder::State,
+        logs: &[u8],
+        ends: &[usize],
+        out: &mut [u8],
+    ) -> Same {
+        self.answers += 1;
+        let mut out_2 = out.to_vec();
+        let ours = ours::pack(&State::of(state), logs, ends, out);
+        let theirs = theirs::pack(state, logs, ends, &mut out_2);
+        same_answer("pack", ours, &theirs)?;
+        same_list("pack's output", out, &out_2)
+    }
+
     pub fn check(&mut self, bytes: &[u8]) -> Same {
         self.answers += 1;
         let theirs = reader::check(bytes);
@@ -120,13 +135,23 @@ impl Both {
         same_answer("check", ours::check(bytes), &fields)
     }
 
-    pub fn body(&mut self, bytes: &[u8], task: usize) -> Same {
+    /// The body copied out: the bytes first, then 5, then 9.
+    pub fn body(&mut self, bytes: &[u8], task: usize, out: &mut [u8]) -> Same {
         self.answers += 1;
-        let theirs = reader::body(bytes, task);
-        let mut ours = vec![0; theirs.len()];
-        let length = ours::body(bytes, task, &mut ours);
-        same("body's length", length, theirs.len())?;
-        same_list("body", &ours, theirs)
+        let mut out_2 = out.to_vec();
+        let ours = ours::body(bytes, task, out);
+        let checked = reader::body_check(bytes, task);
+        let part = reader::body(bytes, task);
+        let theirs = if checked.number != 0 {
+            [checked.number as usize, checked.offset, 0]
+        } else if out_2.len() < part.len() {
+            [number::OUTPUT_TOO_SHORT as usize, 0, 0]
+        } else {
+            out_2[..part.len()].copy_from_slice(part);
+            [0, 0, part.len()]
+        };
+        same_answer("body", ours, &theirs)?;
+        same_list("body's output", out, &out_2)
     }
 
     pub fn body_check(&mut self, bytes: &[u8], task: usize) -> Same {

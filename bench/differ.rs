@@ -94,6 +94,43 @@ impl Script {
         Ok(())
     }
 
+    /// All sections in one call: as they are, and mostly refused, for a damaged log, wrong ends, little room, a state bent.
+    fn packs(&mut self, state: &recorder::State, pieces: &[Vec<u8>]) -> Same {
+        let logs = pieces.concat();
+        let mut ends = Vec::new();
+        for log in pieces {
+            ends.push(ends.last().unwrap_or(&0) + log.len());
+        }
+        let room = 12 * ends.len() + logs.len();
+        let mut out = self.random.bytes(room);
+        self.both.pack(state, &logs, &ends, &mut out)?;
+        for _ in 0..4 {
+            let r = &mut self.random;
+            let (mut state, mut logs, mut ends) = (state.clone(), logs.clone(), ends.clone());
+            if r.once_in(2) {
+                r.damage(&mut logs);
+            }
+            if r.once_in(3) {
+                let t = r.below(ends.len());
+                ends[t] = r.below(logs.len() + 2);
+            }
+            if r.once_in(8) {
+                ends.pop();
+            }
+            if r.once_in(8) {
+                ends.push(logs.len());
+            }
+            if r.once_in(4) {
+                r.bend_state(&mut state);
+            }
+            let less = r.below(room + 1);
+            let room = r.mostly(2, room + 20, less);
+            let mut out = r.bytes(room);
+            self.both.pack(&state, &logs, &ends, &mut out)?;
+        }
+        Ok(())
+    }
+
     /// None where the opening is refused.
     fn recording(&mut self) -> Same<Option<Vec<u8>>> {
         let r = &mut self.random;
@@ -126,6 +163,7 @@ impl Script {
             self.both.section(&state, task, log, &mut out)?;
             bytes.extend(out);
         }
+        self.packs(&state, &logs)?;
         Ok(Some(bytes))
     }
 }
@@ -180,7 +218,9 @@ impl Script {
         self.both.check(bytes)?;
         let tasks = bytes.get(4).map_or(1, |&tasks| tasks.into());
         let task = self.random.index(tasks);
-        self.both.body(bytes, task)?;
+        let room = self.random.below(2 * bytes.len() + 1);
+        let mut out = self.random.bytes(room);
+        self.both.body(bytes, task, &mut out)?;
         self.both.body_check(bytes, task)?;
         let length = self.random.length(objects_in(bytes));
         let mut memory = self.random.words(length);

@@ -27,7 +27,7 @@ extern "C" {
     fn wk_section(halves: &Halves, words: &Words, task: usize, log: *const u8, log_len: usize,
         out: *mut u8, out_len: usize, answer: &mut Answer);
     fn wk_check(bytes: *const u8, bytes_len: usize, answer: &mut Answer);
-    fn wk_body(bytes: *const u8, bytes_len: usize, task: usize, out: *mut u8, out_len: usize) -> usize;
+    fn wk_body(bytes: *const u8, bytes_len: usize, task: usize, out: *mut u8, out_len: usize, answer: &mut Answer);
     fn wk_body_check(bytes: *const u8, bytes_len: usize, task: usize, answer: &mut Answer);
     fn wk_replay_open(bytes: *const u8, bytes_len: usize, memory: *mut u32, memory_len: usize, places: &mut Places, answer: &mut Answer);
     fn wk_ready(places: &Places, bytes: *const u8, bytes_len: usize, answer: &mut Answer);
@@ -37,7 +37,7 @@ extern "C" {
     fn wk_script(tasks: usize, objects: usize, owners: *const u8, owners_len: usize, starts: *const u32, starts_len: usize,
         script: *const u32, script_len: usize, memory: *mut u32, memory_len: usize, out: *mut u8, out_len: usize) -> u64;
     fn wk_pack(halves: &Halves, words: &Words, logs: *const u8, logs_len: usize, ends: *const usize, ends_len: usize,
-        out: *mut u8, out_len: usize) -> usize;
+        out: *mut u8, out_len: usize, answer: &mut Answer);
     fn wk_replay_to_end(bytes: *const u8, bytes_len: usize, memory: *mut u32, memory_len: usize, answer: &mut Answer);
     fn wk_replay(bytes: *const u8, bytes_len: usize, memory: *mut u32, memory_len: usize) -> u64;
 }
@@ -167,8 +167,9 @@ pub fn check(bytes: &[u8]) -> Answer {
     answer
 }
 
-/// The length of a task's body; the body itself goes to `out`, as far as there is room.
-pub fn body(bytes: &[u8], task: usize, out: &mut [u8]) -> usize {
+/// Number, offset and bytes written; the body itself goes to `out`.
+pub fn body(bytes: &[u8], task: usize, out: &mut [u8]) -> Answer {
+    let mut answer = [0; 6];
     unsafe {
         wk_body(
             bytes.as_ptr(),
@@ -176,8 +177,10 @@ pub fn body(bytes: &[u8], task: usize, out: &mut [u8]) -> usize {
             task,
             out.as_mut_ptr(),
             out.len(),
+            &mut answer,
         )
     }
+    answer
 }
 
 pub fn body_check(bytes: &[u8], task: usize) -> Answer {
@@ -267,8 +270,9 @@ pub fn script(script: &Script, memory: &mut [u32], out: &mut [u8]) -> u64 {
     }
 }
 
-/// All sections, one behind the other: the bytes written. Task t's log ends in `logs` at `ends[t]`.
-pub fn pack(state: &State, logs: &[u8], ends: &[usize], out: &mut [u8]) -> usize {
+/// All sections, one behind the other: number, task, offset and bytes written. Task t's log ends in `logs` at `ends[t]`.
+pub fn pack(state: &State, logs: &[u8], ends: &[usize], out: &mut [u8]) -> Answer {
+    let mut answer = [0; 6];
     unsafe {
         wk_pack(
             &state.halves,
@@ -279,8 +283,10 @@ pub fn pack(state: &State, logs: &[u8], ends: &[usize], out: &mut [u8]) -> usize
             ends.len(),
             out.as_mut_ptr(),
             out.len(),
+            &mut answer,
         )
     }
+    answer
 }
 
 /// Number, offset, steps and whether it finished.

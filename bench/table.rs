@@ -152,12 +152,12 @@ fn recording_rows(random: &mut Random, limit: usize, count: usize) {
         &mut || {
             all.iter()
                 .zip(&states)
-                .map(|(r, state)| ours::pack(state, &r.logs, &r.ends, &mut out) as u64)
+                .map(|(r, state)| ours::pack(state, &r.logs, &r.ends, &mut out)[3] as u64)
                 .sum()
         },
         &mut || {
             all.iter()
-                .map(|r| theirs::pack(&r.state, &r.logs, &r.ends, &mut out_2) as u64)
+                .map(|r| theirs::sections(&r.state, &r.logs, &r.ends, &mut out_2) as u64)
                 .sum()
         },
     ]);

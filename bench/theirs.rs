@@ -1,26 +1,27 @@
 //! The other side of the calls that do many at once: what `crates/timed/src/lib.rt` and `crates/linked/src/pack.rt` do, by `peer.rs`.
 
-use crate::peer::{recorder, replayer};
+use crate::peer::{number, recorder, replayer};
 use crate::table::Script;
 
+// The digest as `crates/timed/specs/Digest.antt` has it.
 fn mixed(digest: u64, x: u64) -> u64 {
-    digest.rotate_left(7) ^ x
+    31 * (digest % (1 << 58)) + x
 }
 
 fn access_word(a: &recorder::Accessed) -> u64 {
-    u64::from(a.value)
-        ^ u64::from(a.row) << 32
-        ^ (a.class as u64) << 36
-        ^ u64::from(a.number) << 40
-        ^ (a.written as u64) << 48
+    let above = u64::from(a.row)
+        + 16 * (a.class as u64)
+        + 8192 * u64::from(a.number % 32)
+        + 262_144 * (a.written as u64 % 256);
+    u64::from(a.value) + (above << 32)
 }
 
 fn step_word(task: usize, s: &replayer::Step) -> u64 {
-    u64::from(s.value)
-        ^ (task as u64) << 32
-        ^ u64::from(s.kind) << 36
-        ^ (s.object as u64) << 40
-        ^ u64::from(s.access) << 48
+    let above = (task as u64 % 16)
+        + 16 * u64::from(s.kind % 8)
+        + 128 * (s.object as u64 % 256)
+        + 32_768 * (u64::from(s.access) % 2048);
+    u64::from(s.value) + (above << 32)
 }
 
 /// With `CHECK` each access checks the whole state first, as document 01 asks.
@@ -36,14 +37,43 @@ pub fn script<const CHECK: bool>(script: &Script, memory: &mut [u32], out: &mut 
     })
 }
 
+/// The bytes written, section by section: for ends that are right, and room.
 #[inline(never)]
-pub fn pack(state: &recorder::State, logs: &[u8], ends: &[usize], out: &mut [u8]) -> usize {
+pub fn sections(state: &recorder::State, logs: &[u8], ends: &[usize], out: &mut [u8]) -> usize {
     let (mut from, mut at) = (0, 0);
     for (task, &to) in ends.iter().enumerate() {
         at += recorder::section(state, task, &logs[from..to], &mut out[at..]).written;
         from = to;
     }
     at
+}
+
+/// Number, task, offset and bytes written: 17, 21, the logs, 9, and nothing is written before all are checked.
+pub fn pack(state: &recorder::State, logs: &[u8], ends: &[usize], out: &mut [u8]) -> [usize; 4] {
+    if !state.is_sound() {
+        return [number::UNSOUND as usize, 0, 0, 0];
+    }
+    let places: Vec<usize> = std::iter::once(0).chain(ends.iter().copied()).collect();
+    let risen = places.windows(2).all(|two| two[0] <= two[1]);
+    if ends.len() != state.tasks || !risen || places[ends.len()] > logs.len() {
+        return [21, 0, 0, 0];
+    }
+    let parts = || places.windows(2).map(|two| &logs[two[0]..two[1]]).enumerate();
+    for (task, log) in parts() {
+        // Without any output a log that is right gives 9.
+        let s = recorder::section(state, task, log, &mut []);
+        if s.number != number::OUTPUT_TOO_SHORT {
+            return [s.number as usize, task, s.offset, 0];
+        }
+    }
+    let mut room = out.len();
+    for (task, log) in parts() {
+        match room.checked_sub(12 + log.len()) {
+            Some(left) => room = left,
+            None => return [number::OUTPUT_TOO_SHORT as usize, task, 0, 0],
+        }
+    }
+    [0, 0, 0, sections(state, logs, ends, out)]
 }
 
 /// Number, offset, steps and whether it finished. A scheduler of its own finds the lowest ready task.

@@ -68,3 +68,7 @@ held = 16
 -- unsound state or run
 abbrev pub unsound : ℕ
 unsound = 17
+
+-- ends of logs that fall, pass the logs or do not number T (document 02, F-8)
+abbrev pub ends : ℕ
+ends = 21

@@ -34,3 +34,5 @@ pub const FINISHED: u32 = 15;
 pub const HELD: u32 = 16;
 // 17: unsound state or run.
 pub const UNSOUND: u32 = 17;
+// 21: ends of logs that fall, pass the logs or do not number T (document 02, F-8).
+pub const ENDS: u32 = 21;

@@ -9,12 +9,14 @@ use Rattle.reader.specs.declared.Checked.{Checked}
 use Rattle.recorder.specs.declared.Opened.{Opened}
 use Rattle.recorder.specs.declared.Accessed.{Accessed}
 use Rattle.recorder.specs.declared.Sectioned.{Sectioned}
+use Rattle.recorder.specs.declared.pack.Packed.{Packed}
 use Rattle.replayer.specs.declared.Opened.{Opened as ReplayOpened}
 use Rattle.replayer.specs.declared.ReadyWord.{ReadyWord}
 use Rattle.replayer.specs.declared.Stepped.{Stepped}
 use Rattle.replayer.specs.declared.alike.Compared.{Compared}
 use Rattle.replayer.specs.declared.to_end.Replayed.{Replayed}
 use Rattle.replayer.specs.Word.{bit, readyCount, lowestReady}
+use Rattle.linked.specs.CopyOf.{Copied}
 
 abbrev pub openNumbers : Opened → List ℕ
 openNumbers a = a .number ∷ a .written ∷ []
@@ -25,8 +27,14 @@ accessNumbers a = a .number ∷ a .value ∷ a .row ∷ a .class ∷ a .written 
 abbrev pub sectionNumbers : Sectioned → List ℕ
 sectionNumbers a = a .number ∷ a .offset ∷ a .written ∷ []
 
+abbrev pub packNumbers : Packed → List ℕ
+packNumbers a = a .number ∷ a .task ∷ a .offset ∷ a .written ∷ []
+
 abbrev pub checkNumbers : Checked → List ℕ
 checkNumbers a = a .number ∷ a .offset ∷ []
+
+abbrev pub copyNumbers : Copied → List ℕ
+copyNumbers a = a .number ∷ a .offset ∷ a .written ∷ []
 
 abbrev pub replayOpenNumbers : ReplayOpened → List ℕ
 replayOpenNumbers a = a .number ∷ a .offset ∷ []

@@ -1,5 +1,5 @@
 -- A recorder state as 548 halves and 273 words. Halves: T, N, Last's task and number, Done and Took of each task, each object's case
--- (0 write-held, 1 read-held, else shared), each object's task. Words: G, Seen of each task, each object's share number.
+-- (0 write-held, 1 read-held, 2 shared), each object's task. Words: G, Seen of each task, each object's share number.
 use mathlib.Core.Bool.{cond}
 use mathlib.Core.List.{List, _∷_, _++_}
 use Prim.Native.Nat.{ℕ, _+_}
@@ -13,10 +13,11 @@ use Rattle.tracker.specs.declared.State.{State}
 use Rattle.tracker.specs.State.{holderOf, shareOf, owned, position}
 use Rattle.linked.specs.Each.{each}
 
--- an object's record by its case, task and share number
+-- An object's record by its case, task and share number. A case above 2 means nothing: it is read as shared with share number 0, which
+-- document 01 calls unsound, so that every call on it gives 17.
 unfoldable pub recordOf : ℕ → ℕ → ℕ → ObjectRecord
 recordOf case task share = record {
-  locality = cond (eqb case 0) (WriteExclusive task) (cond (eqb case 1) (ReadExclusive task) (ReadShared share));
+  locality = cond (eqb case 0) (WriteExclusive task) (cond (eqb case 1) (ReadExclusive task) (ReadShared (cond (eqb case 2) share 0)));
 }
 
 abbrev pub recordIn : List ℕ → List ℕ → ℕ → ObjectRecord

@@ -1,11 +1,11 @@
 pub mod Answers
-pub mod Copy
+pub mod CopyOf
+pub mod CopyLaws
 pub mod Each
 pub mod Halves
 pub mod HalvesBack
 pub mod HalvesTurn
-pub mod Packing
-pub mod PackingTurn
+pub mod NoCase
 pub mod Places
 pub mod PlacesBack
 pub mod PlacesTurn

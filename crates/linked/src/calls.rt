@@ -1,11 +1,13 @@
 // One call each: every field of the answer is put into `answer`, from its start, in the order in which the library's struct has them; a
 // state or a run is put where it was lent. A refused access leaves the arrays of its state: stored again, a number in them that means
 // nothing would change.
+//
+// A refused `wk_open` or `wk_replay_open` leaves the blank state or run, all zero, in the arrays, since that is what document 01's number
+// table returns from a refused opening. `step_in_place` has no export of its own: a lent struct cannot be passed, and `wk_step` moves the
+// lent numbers on in place.
 ghost use mathlib.Core.Path.{_≡_};
-ghost use Prim.Native.Nat.{min};
-ghost use lib.ListN.{length, take};
 ghost use Rattle.codec.specs.Store.{store};
-ghost use Rattle.reader.specs.Calls.{checkedOf, bodyPart, bodyChecked};
+ghost use Rattle.reader.specs.Calls.{checkedOf, bodyChecked};
 ghost use Rattle.reader.specs.Parse.{parse};
 ghost use Rattle.recorder.specs.AccessOf.{accessOf};
 ghost use Rattle.recorder.specs.OpenOf.{openOf};
@@ -111,26 +113,6 @@ pub extern "C" fn wk_check(bytes: &[u8], answer: &mut [usize; 6])
     let r = reader::check(bytes);
     answer[0] = r.number as usize;
     answer[1] = r.offset;
-}
-
-fn least(a: usize, b: usize) -> usize
-    ensures { λ r. ⌜ r ≡ min a b ⌝ }
-{
-    if a < b { a } else { b }
-}
-
-// The body itself, as far as there is room for it, and its length: an exported function cannot hand back a part of a slice.
-#[no_mangle]
-pub extern "C" fn wk_body(bytes: &[u8], task: usize, out: &mut [u8]) -> usize
-    ensures { λ r. ⌜ r ≡ length (bodyPart (parse (now (bytes .entry))) task (now (bytes .entry))) ⌝ }
-    ensures { λ r. ⌜ now (out .exit) ≡ store (now (out .entry)) 0 (take (length (now (out .entry))) (bodyPart (parse (now (bytes .entry))) task (now (bytes .entry)))) ⌝ }
-{
-    let body = reader::body(bytes, task);
-    let n = least(body.len(), out.len());
-    for i in 0..n {
-        out[i] = body[i];
-    }
-    body.len()
 }
 
 #[no_mangle]

@@ -1,7 +1,7 @@
 // The recorder's state and a replay's run as arrays of numbers, so that a caller can lend any state, sound or not.
 //
 // A state's halves are T, N, Last's task and number, Done and Took of each task, then for each object its case (0 write-held,
-// 1 read-held, else shared) and its task; its words are G, Seen of each task, and each object's share number.
+// 1 read-held, 2 shared) and its task; its words are G, Seen of each task, and each object's share number.
 // A run's places are T and N, then for each task its place, end, done and count.
 ghost use mathlib.Core.Path.{_≡_};
 ghost use Rattle.codec.specs.Store.{store};
@@ -19,13 +19,15 @@ use tracker::State;
 use tracker::advance::holder_of;
 use tracker::advance::share_of;
 
+// A case above 2 means nothing. It is read as shared with share number 0, which is unsound, so each call on it answers 17.
 fn record_of(case: u16, task: u16, share: u32) -> ObjectRecord
     ensures { λ r. ⌜ r ≡ recordOf case task share ⌝ }
 {
     let locality = match case {
         0 => Locality::WriteExclusive(task),
         1 => Locality::ReadExclusive(task),
-        _ => Locality::ReadShared(share),
+        2 => Locality::ReadShared(share),
+        _ => Locality::ReadShared(0),
     };
     ObjectRecord { locality }
 }

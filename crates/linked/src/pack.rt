@@ -1,10 +1,13 @@
 // The sections of a whole recording in one call.
 ghost use mathlib.Core.Path.{_≡_};
+ghost use Rattle.codec.specs.Store.{store};
+ghost use Rattle.recorder.specs.PackOf.{packOf};
+ghost use Rattle.linked.specs.Answers.{packNumbers};
 ghost use Rattle.linked.specs.Halves.{stateIn};
-ghost use Rattle.linked.specs.Packing.{packOf};
 use crate::layout::state_of;
+use recorder::pack::pack;
 
-// The sections of the tasks from 0 on, one behind the other; `ends` says where in `logs` each task's log ends.
+// `ends` says where in `logs` each task's log ends. The answer is number, task, offset in the task's log, and bytes written.
 #[no_mangle]
 pub extern "C" fn wk_pack(
     halves: &[u16; 548],
@@ -12,24 +15,15 @@ pub extern "C" fn wk_pack(
     logs: &[u8],
     ends: &[usize],
     out: &mut [u8],
-) -> usize
-    ensures { λ r. ⌜ r ≡ packOf (stateIn (now (halves .entry)) (now (words .entry))) (now (logs .entry)) (now (ends .entry)) (now (out .entry)) .written ⌝ }
-    ensures { λ r. ⌜ now (out .exit) ≡ packOf (stateIn (now (halves .entry)) (now (words .entry))) (now (logs .entry)) (now (ends .entry)) (now (out .entry)) .out ⌝ }
+    answer: &mut [usize; 6],
+)
+    ensures { λ _. ⌜ now (answer .exit) ≡ store (now (answer .entry)) 0 (packNumbers (packOf (stateIn (now (halves .entry)) (now (words .entry))) (now (logs .entry)) (now (ends .entry)) (now (out .entry)) .answer)) ⌝ }
+    ensures { λ _. ⌜ now (out .exit) ≡ packOf (stateIn (now (halves .entry)) (now (words .entry))) (now (logs .entry)) (now (ends .entry)) (now (out .entry)) .out ⌝ }
 {
     let state = state_of(halves, words);
-    let mut from = 0;
-    let mut at = 0;
-    for t in 0..ends.len() {
-        let to = ends[t];
-        if to < from {
-            return at;
-        }
-        if logs.len() < to {
-            return at;
-        }
-        let s = recorder::section(state, t, &logs[from..to], &mut out[at..]);
-        at += s.written;
-        from = to;
-    }
-    at
+    let r = pack(state, logs, ends, out);
+    answer[0] = r.number as usize;
+    answer[1] = r.task;
+    answer[2] = r.offset;
+    answer[3] = r.written;
 }

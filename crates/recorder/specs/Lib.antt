@@ -8,4 +8,8 @@ pub mod OpenTurn
 pub mod Orders
 pub mod SectionOf
 pub mod SectionTurn
+pub mod PackOf
+pub mod PackTurn
+pub mod SectionBySection
+pub mod PackSections
 pub mod WholeRun

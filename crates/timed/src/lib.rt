@@ -1,32 +1,45 @@
 // Many calls in one, for the bench's clock: each answers a digest of all that its calls answered, so that none can be left out. They are
 // a library of their own, with one place that calls an access and one that calls a step, as a program has: where there are two, the
 // compiler does not put the call's code in its place, and an access copies the state once more.
+ghost use mathlib.Core.Path.{_≡_};
+ghost use Prim.Native.Nat.{_<_};
+ghost use Rattle.timed.specs.Digest.{mixedIn, accessWord, stepWord};
+ghost use Rattle.timed.specs.ReplayOf.{replayOf};
+ghost use Rattle.timed.specs.ScriptOf.{scriptOf};
 use replayer::lowest_ready;
 use replayer::ready;
 
-// The digest turned by 7 bits, and x into it.
-fn mixed(digest: u64, x: u64) -> u64 {
-    (digest << 7) ^ (digest >> 57) ^ x
+fn mixed(digest: u64, x: u64) -> u64
+    requires { ⌜ x < 288230376151711744 ⌝ }
+    ensures { λ r. ⌜ r ≡ mixedIn digest x ⌝ }
+{
+    31 * (digest % 288230376151711744) + x
 }
 
-fn wide(x: u32) -> usize {
+fn wide(x: u32) -> usize
+    ensures { λ r. ⌜ r ≡ x ⌝ }
+{
     x as usize
 }
 
-fn access_word(number: u32, value: u32, row: u8, class: u8, written: usize) -> u64 {
-    (value as u64)
-        ^ ((row as u64) << 32)
-        ^ ((class as u64) << 36)
-        ^ ((number as u64) << 40)
-        ^ ((written as u64) << 48)
+fn access_word(number: u32, value: u32, row: u8, class: u8, written: usize) -> u64
+    ensures { λ r. ⌜ (r ≡ accessWord number value row class written) × (r < 288230376151711744) ⌝ }
+{
+    let above = (row as u64)
+        + 16 * (class as u64)
+        + 8192 * (number as u64 % 32)
+        + 262144 * (written as u64 % 256);
+    (value as u64) + 4294967296 * above
 }
 
-fn step_word(task: usize, kind: u16, object: usize, value: u32, access: usize) -> u64 {
-    (value as u64)
-        ^ ((task as u64) << 32)
-        ^ ((kind as u64) << 36)
-        ^ ((object as u64) << 40)
-        ^ ((access as u64) << 48)
+fn step_word(task: usize, kind: u16, object: usize, value: u32, access: usize) -> u64
+    ensures { λ r. ⌜ (r ≡ stepWord task kind object value access) × (r < 288230376151711744) ⌝ }
+{
+    let above = (task as u64 % 16)
+        + 16 * (kind as u64 % 8)
+        + 128 * (object as u64 % 256)
+        + 32768 * (access as u64 % 2048);
+    (value as u64) + 4294967296 * above
 }
 
 // A recording opened, and a script of accesses run on it, four numbers each: task, object, sort, value. All write to one output.
@@ -39,7 +52,11 @@ pub extern "C" fn wk_script(
     script: &[u32],
     memory: &mut [u32],
     out: &mut [u8],
-) -> u64 {
+) -> u64
+    ensures { λ r. ⌜ r ≡ scriptOf tasks objects (now (owners .entry)) (now (starts .entry)) (now (script .entry)) (now (memory .entry)) (now (out .entry)) .digest ⌝ }
+    ensures { λ r. ⌜ now (memory .exit) ≡ scriptOf tasks objects (now (owners .entry)) (now (starts .entry)) (now (script .entry)) (now (memory .entry)) (now (out .entry)) .memory ⌝ }
+    ensures { λ r. ⌜ now (out .exit) ≡ scriptOf tasks objects (now (owners .entry)) (now (starts .entry)) (now (script .entry)) (now (memory .entry)) (now (out .entry)) .out ⌝ }
+{
     let opened = recorder::open(tasks, objects, owners, starts, memory, out);
     let mut state = opened.state;
     let mut digest: u64 = 0;
@@ -66,7 +83,10 @@ pub extern "C" fn wk_script(
 // A recording opened and stepped, the lowest ready task first, until none is ready. A step uses up a record, so the bytes are
 // turns enough.
 #[no_mangle]
-pub extern "C" fn wk_replay(bytes: &[u8], memory: &mut [u32]) -> u64 {
+pub extern "C" fn wk_replay(bytes: &[u8], memory: &mut [u32]) -> u64
+    ensures { λ r. ⌜ r ≡ replayOf (now (bytes .entry)) (now (memory .entry)) .digest ⌝ }
+    ensures { λ r. ⌜ now (memory .exit) ≡ replayOf (now (bytes .entry)) (now (memory .entry)) .memory ⌝ }
+{
     let opened = replayer::open(bytes, memory);
     let mut run = opened.run;
     let mut digest: u64 = opened.number as u64;

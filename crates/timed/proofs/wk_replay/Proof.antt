@@ -1,7 +1,10 @@
-use mathlib.Core.Path.{_≡_}
-use Prim.Native.Nat.{_≤_, _<_, _-_}
-use lib.ListN.{length}
+use mathlib.Core.Path.{_≡_, ap, sym, _∙_}
+use Prim.Native.Nat.{_-_, _≤_, _<_}
 use native.Mathlib.Omega.{arith}
+use denote.Ref.{now}
+use lib.ListN.{length}
+use Rattle.timed.specs.ReplayOf.{Replayed, taskNext, stepsIn, replayOf}
+use Rattle.timed.specs.Turns.{steps-over, steps-stop, steps-more, step-turn}
 use borrow.Author.Needs.{needs}
 use Rattle.timed.proofs.wk_replay.Statement.{statement}
 use Rattle.timed.proofs.wk_replay.Tie as tie
@@ -9,10 +12,10 @@ use Rattle.timed.proofs.wk_replay.Tie as tie
 abbrev Inv-loop : tie.InvT-loop
 Inv-loop bytes memory₀ run₀ digest₀ counter₀ end memory run digest counter =
     (counter ≤ length bytes) × (length bytes < 18446744073709551616) × (length memory ≡ length memory₀)
+    × (stepsIn (length bytes - counter) bytes (record { run = run; memory = memory; digest = digest }) ≡ stepsIn (length bytes) bytes (record { run = run₀; memory = memory₀; digest = digest₀ }))
 
 abbrev μ-loop : tie.MeasureT-loop
-μ-loop bytes memory₀ run₀ digest₀ counter₀ end memory run digest counter =
-    length bytes - counter
+μ-loop bytes memory₀ run₀ digest₀ counter₀ end memory run digest counter = length bytes - counter
 
 open-requires : tie.Need-open-requires Inv-loop μ-loop
 open-requires c κs = search needs
@@ -21,7 +24,7 @@ cast-digest : tie.Need-cast-digest Inv-loop μ-loop
 cast-digest c = search needs
 
 loop-holds : tie.Need-loop-holds Inv-loop μ-loop
-loop-holds c = search needs
+loop-holds c = let e : length (now (c .before .before .before .before .before .before .before .before .args .bytes)) - 0 ≡ length (now (c .before .before .before .before .before .before .before .before .args .bytes)) = omega arith in (search needs, search needs, search needs, rw e)
 
 ready-requires : tie.Need-ready-requires Inv-loop μ-loop
 ready-requires c κs = search needs
@@ -36,7 +39,12 @@ same-length : tie.Need-same-length Inv-loop μ-loop
 same-length c = search needs
 
 returns : tie.Need-returns Inv-loop μ-loop
-returns c = search needs
+returns c =
+    let l = c .before .before .before .before .loop in
+    let x : Replayed = record { run = l .run; memory = l .memory; digest = l .digest } in
+    let k : taskNext (now (c .before .before .before .before .before .before .before .before .before .before .before .before .before .args .bytes)) x ≡ 16 = sym (rw (c .before .before .ready .ensures) at (c .before .lowest-ready .ensures)) ∙ c .if1 .taken in
+    let e : x ≡ replayOf (now (c .before .before .before .before .before .before .before .before .before .before .before .before .before .args .bytes)) (now (c .before .before .before .before .before .before .before .before .before .before .before .before .before .args .memory)) = sym (steps-stop (now (c .before .before .before .before .before .before .before .before .before .before .before .before .before .args .bytes)) x _ (l .counter) (c .before .before .before .loop-test .taken) k) ∙ (rw (c .before .before .before .before .before .before .before .before .before .«open» .ensures .0, c .before .before .before .before .before .before .before .before .before .«open» .ensures .1) at (l .inv .3)) in
+    (ap (λ (y : Replayed). y .digest) e, ap (λ (y : Replayed). y .memory) e)
 
 step-requires : tie.Need-step-requires Inv-loop μ-loop
 step-requires c κs = search needs
@@ -54,13 +62,27 @@ loop-less : tie.Need-loop-less Inv-loop μ-loop
 loop-less c = search needs
 
 loop-again : tie.Need-loop-again Inv-loop μ-loop
-loop-again c = search needs
+loop-again c =
+    let l = c .before .before .before .before .before .before .before .before .before .before .before .loop in
+    let b = now (c .before .before .before .before .before .before .before .before .before .before .before .before .before .before .before .before .before .before .before .before .args .bytes) in
+    let x : Replayed = record { run = l .run; memory = l .memory; digest = l .digest } in
+    let s = c .before .before .before .before .before .step in
+    let k : taskNext b x ≡ 16 → ⊥ = λ h. c .before .before .before .before .before .before .before .if1 .left (rw (c .before .before .before .before .before .before .before .before .before .ready .ensures) at (c .before .before .before .before .before .before .before .before .lowest-ready .ensures) ∙ h) in (
+      omega (arith, c .before .before .before .before .before .before .before .before .before .before .loop-test .taken),
+      l .inv .1,
+      search needs,
+      ap (stepsIn _ b) (step-turn b x (c .before .before .before .before .before .before .before .before .before .ready .result) (c .before .before .before .before .before .before .before .before .lowest-ready .result) (s .result) _ _ _ (c .before .before .before .before .before .before .before .before .before .ready .ensures) (c .before .before .before .before .before .before .before .before .lowest-ready .ensures) (s .ensures .0) (s .ensures .1) (c .before .before .step-word .ensures .0) (c .before .mixed .ensures)) ∙ steps-more b x _ (l .counter) (c .before .before .before .before .before .before .before .before .before .before .loop-test .taken) k ∙ l .inv .3,
+    )
 
 same-length-2 : tie.Need-same-length-2 Inv-loop μ-loop
 same-length-2 c = search needs
 
 returns-2 : tie.Need-returns-2 Inv-loop μ-loop
-returns-2 c = search needs
+returns-2 c =
+    let l = c .before .loop in
+    let x : Replayed = record { run = l .run; memory = l .memory; digest = l .digest } in
+    let e : x ≡ replayOf (now (c .before .before .before .before .before .before .before .before .before .before .args .bytes)) (now (c .before .before .before .before .before .before .before .before .before .before .args .memory)) = sym (steps-over (now (c .before .before .before .before .before .before .before .before .before .before .args .bytes)) x _ (l .counter) (c .loop-test .left)) ∙ (rw (c .before .before .before .before .before .before .«open» .ensures .0, c .before .before .before .before .before .before .«open» .ensures .1) at (l .inv .3)) in
+    (ap (λ (y : Replayed). y .digest) e, ap (λ (y : Replayed). y .memory) e)
 
 pub wk-replay-spec : {M : Type 1} → statement M
 wk-replay-spec =

@@ -1,7 +1,10 @@
-use mathlib.Core.Path.{_≡_}
-use Prim.Native.Nat.{_≤_, _<_, _*_, _-_}
-use lib.ListN.{length}
+use mathlib.Core.Path.{_≡_, refl, ap}
+use Prim.Native.Nat.{_*_, _-_, _/_, _≤_, _<_}
 use native.Mathlib.Omega.{arith}
+use denote.Ref.{now}
+use lib.ListN.{length}
+use Rattle.timed.specs.ScriptOf.{Scripted, accessesTo, scriptOf}
+use Rattle.timed.specs.Turns.{access-turn}
 use borrow.Author.Needs.{needs}
 use Rattle.timed.proofs.wk_script.Statement.{statement}
 use Rattle.timed.proofs.wk_script.Tie as tie
@@ -9,16 +12,18 @@ use Rattle.timed.proofs.wk_script.Tie as tie
 abbrev Inv-loop : tie.InvT-loop
 Inv-loop tasks objects owners starts script memory₀ out₀ state₀ digest₀ i₀ i-end memory out state digest i =
     (4 * i ≤ length script) × (length script < 18446744073709551616) × (length memory ≡ length memory₀) × (length out ≡ length out₀)
+    × (_≡_ {A = Scripted} (record { state = state; memory = memory; out = out; digest = digest }) (accessesTo script i (record { state = state₀; memory = memory₀; out = out₀; digest = digest₀ })))
+    × (i ≤ length script / 4)
 
 abbrev μ-loop : tie.MeasureT-loop
-μ-loop tasks objects owners starts script memory₀ out₀ state₀ digest₀ i₀ i-end memory out state digest i =
-    length script - 4 * i
+μ-loop tasks objects owners starts script memory₀ out₀ state₀ digest₀ i₀ i-end memory out state digest i = length script - 4 * i
 
 open-requires : tie.Need-open-requires Inv-loop μ-loop
 open-requires c κs = search needs
 
 loop-holds : tie.Need-loop-holds Inv-loop μ-loop
-loop-holds c = search needs
+unfolding accessesTo
+loop-holds c = (search needs, search needs, search needs, search needs, refl, omega arith)
 
 mul-at : tie.Need-mul-at Inv-loop μ-loop
 mul-at c = search needs
@@ -72,13 +77,22 @@ mixed-requires : tie.Need-mixed-requires Inv-loop μ-loop
 mixed-requires c κs = search needs
 
 add-i : tie.Need-add-i Inv-loop μ-loop
-add-i c = omega (arith, c .before .before .before .before .before .before .before .before .before .before .before .before .before .before .before .before .loop-test .taken, c .before .before .before .before .before .before .before .before .before .before .before .before .before .before .before .before .before .loop .inv)
+add-i c = omega (arith, c .before .before .before .before .before .before .before .before .before .before .before .before .before .before .before .before .loop-test .taken, c .before .before .before .before .before .before .before .before .before .before .before .before .before .before .before .before .before .loop .inv .0, c .before .before .before .before .before .before .before .before .before .before .before .before .before .before .before .before .before .loop .inv .1)
 
 loop-less : tie.Need-loop-less Inv-loop μ-loop
 loop-less c = search needs
 
 loop-again : tie.Need-loop-again Inv-loop μ-loop
-loop-again c = search needs
+loop-again c =
+    let l = c .before .before .before .before .before .before .before .before .before .before .before .before .before .before .before .before .before .loop in
+    let a = c .before .before .before .before .before .before .before .access in (
+      omega (arith, c .before .before .before .before .before .before .before .before .before .before .before .before .before .before .before .before .loop-test .taken),
+      l .inv .1,
+      search needs,
+      search needs,
+      access-turn _ (l .i) _ (record { state = l .state; memory = l .memory; out = l .out; digest = l .digest }) _ _ _ _ _ _ _ (l .inv .4) (c .before .before .before .before .before .before .before .before .before .before .before .before .before .before .wide .ensures) (c .before .before .before .before .before .before .before .before .before .before .before .before .wide2 .ensures) (a .ensures .0) (a .ensures .1 .0) (a .ensures .1 .1) (c .before .before .access-word .ensures .0) (c .before .mixed .ensures),
+      omega (arith, c .before .before .before .before .before .before .before .before .before .before .before .before .before .before .before .before .loop-test .taken),
+    )
 
 same-length : tie.Need-same-length Inv-loop μ-loop
 same-length c = search needs
@@ -87,7 +101,14 @@ same-length-2 : tie.Need-same-length-2 Inv-loop μ-loop
 same-length-2 c = search needs
 
 returns : tie.Need-returns Inv-loop μ-loop
-returns c = search needs
+returns c =
+    let l = c .before .loop in
+    let a = c .before .before .before .before .before .before .before .before .before .before .before .before .before .before .before .args in
+    let o = c .before .before .before .before .before .before .before .«open» .ensures in
+    let n : l .i ≡ length (now (a .script)) / 4 = omega (arith, c .loop-test .left) in
+    let e : _≡_ {A = Scripted} (record { state = l .state; memory = l .memory; out = l .out; digest = l .digest }) (scriptOf (a .tasks) (a .objects) (now (a .owners)) (now (a .starts)) (now (a .script)) (now (a .memory)) (now (a .out))) =
+    rw (n, o .0, o .1 .0, o .1 .1) at (l .inv .4) in
+    (ap (λ (x : Scripted). x .digest) e, (ap (λ (x : Scripted). x .memory) e, ap (λ (x : Scripted). x .out) e))
 
 pub wk-script-spec : {M : Type 1} → statement M
 wk-script-spec =

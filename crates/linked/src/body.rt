@@ -1,0 +1,50 @@
+// A task's body copied out: an exported function cannot hand back a part of a slice.
+ghost use mathlib.Core.Path.{_≡_};
+ghost use mathlib.Core.List.{[], _∷_};
+ghost use Prim.Native.Nat.{_≤_};
+ghost use lib.ListN.{length};
+ghost use Rattle.codec.specs.Store.{store};
+ghost use Rattle.linked.specs.Answers.{copyNumbers};
+ghost use Rattle.linked.specs.CopyOf.{copyOf};
+use codec::number::ROOM;
+use reader::body;
+use reader::body_check;
+
+fn put_bytes(out: &mut [u8], bytes: &[u8])
+    requires { ⌜ length (now bytes) ≤ length (now out) ⌝ }
+    ensures { λ _. ⌜ now (out .exit) ≡ store (now (out .entry)) 0 (now (bytes .entry)) ⌝ }
+{
+    for i in 0..bytes.len() {
+        out[i] = bytes[i];
+    }
+}
+
+fn put_three(answer: &mut [usize; 6], x: usize, y: usize, z: usize)
+    ensures { λ _. ⌜ now (answer .exit) ≡ store (now (answer .entry)) 0 (x ∷ y ∷ z ∷ []) ⌝ }
+{
+    answer[0] = x;
+    answer[1] = y;
+    answer[2] = z;
+}
+
+// The answer is number, offset and bytes written. A body that has bytes was not refused, so the bytes are walked a second time only
+// for an empty one.
+#[no_mangle]
+pub extern "C" fn wk_body(bytes: &[u8], task: usize, out: &mut [u8], answer: &mut [usize; 6])
+    ensures { λ _. ⌜ now (answer .exit) ≡ store (now (answer .entry)) 0 (copyNumbers (copyOf (now (bytes .entry)) task (now (out .entry)))) ⌝ }
+    ensures { λ _. ⌜ now (out .exit) ≡ copyOf (now (bytes .entry)) task (now (out .entry)) .out ⌝ }
+{
+    let part = body(bytes, task);
+    let size = part.len();
+    if size == 0 {
+        let c = body_check(bytes, task);
+        put_three(answer, c.number as usize, c.offset, 0);
+        return;
+    }
+    if out.len() < size {
+        put_three(answer, ROOM as usize, 0, 0);
+        return;
+    }
+    put_bytes(out, part);
+    put_three(answer, 0, 0, size);
+}
