@@ -5,4 +5,5 @@ pub mod Ran
 pub mod Wanted
 pub mod WholeAnswer
 pub mod WholeRecording
+pub mod WholeRecordingLaws
 pub mod WholeText

@@ -18,7 +18,8 @@ use Rattle.script.specs.RowTurn.{row-facts}
 use Rattle.script.specs.Rows.{isRow, sizesOf, ownersOf}
 use Rattle.script.specs.Session.{fedAll}
 use Rattle.programs.specs.Numbered.{Numbered, numbered-from}
-use Rattle.programs.specs.WholeRecording.{WholeRecording, whole-recording}
+use Rattle.programs.specs.WholeRecording.{WholeRecording}
+use Rattle.programs.specs.WholeRecordingLaws.{whole-recording}
 
 -- an outcome that no line stopped is a whole run's, with the accesses of these lines
 abbrev Whole : Outcome → List Line → Type 0
