@@ -1,4 +1,5 @@
 pub mod Zeros
+pub mod ZerosLaws
 pub mod Number
 pub mod Found
 pub mod Front
@@ -19,6 +20,8 @@ pub mod FedTurn
 pub mod Packed
 pub mod PackedTurn
 pub mod RecordOf
+pub mod OpenedAs
+pub mod OpenedTurn
 pub mod RecordTurn
 pub mod Message
 pub mod MessageTurn
