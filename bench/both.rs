@@ -190,6 +190,20 @@ impl Both {
         Ok(theirs.word)
     }
 
+    /// Whether a run has finished, and the order in which it would be played, into an output of so many bytes.
+    pub fn schedule(&mut self, run: &replayer::Run, bytes: &[u8], mut out: Vec<u8>) -> Same {
+        self.answers += 2;
+        let places = ours::places_of(run);
+        let ours = ours::finished(&places, bytes);
+        same_answer("finished", ours, &theirs::finished(run, bytes))?;
+        let theirs = theirs::schedule(run, bytes, out.len());
+        let mut whole = out.clone();
+        whole[..theirs.len()].copy_from_slice(&theirs);
+        let steps = ours::schedule(&places, bytes, &mut out);
+        same("schedule's steps", steps, theirs.len())?;
+        same_list("schedule", &out, &whole)
+    }
+
     pub fn step(
         &mut self,
         run: &mut replayer::Run,

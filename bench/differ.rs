@@ -183,6 +183,9 @@ impl Script {
         let length = r.length(run.objects.min(300));
         let mut memory = r.words(length);
         self.both.ready(&run, &bytes)?;
+        let room = self.random.below(40);
+        let out = self.random.bytes(room);
+        self.both.schedule(&run, &bytes, out)?;
         for _ in 0..3 {
             let task = self.random.index(run.tasks.min(16));
             self.both.step(&mut run, &bytes, &mut memory, task)?;

@@ -31,6 +31,14 @@ extern "C" {
     fn wk_body_check(bytes: *const u8, bytes_len: usize, task: usize, answer: &mut Answer);
     fn wk_replay_open(bytes: *const u8, bytes_len: usize, memory: *mut u32, memory_len: usize, places: &mut Places, answer: &mut Answer);
     fn wk_ready(places: &Places, bytes: *const u8, bytes_len: usize, answer: &mut Answer);
+    fn wk_finished(places: &Places, bytes: *const u8, bytes_len: usize, answer: &mut Answer);
+    fn wk_schedule(
+        places: &Places,
+        bytes: *const u8,
+        bytes_len: usize,
+        out: *mut u8,
+        out_len: usize,
+    ) -> usize;
     fn wk_step(places: &mut Places, bytes: *const u8, bytes_len: usize, memory: *mut u32, memory_len: usize, task: usize, answer: &mut Answer);
     fn wk_same_outcome(first: *const u8, first_len: usize, second: *const u8, second_len: usize,
         first_memory: *mut u32, first_memory_len: usize, second_memory: *mut u32, second_memory_len: usize, answer: &mut Answer);
@@ -209,6 +217,26 @@ pub fn ready(places: &Places, bytes: &[u8]) -> Answer {
     let mut answer = [0; 6];
     unsafe { wk_ready(places, bytes.as_ptr(), bytes.len(), &mut answer) }
     answer
+}
+
+/// Number, and whether no task has accesses left.
+pub fn finished(places: &Places, bytes: &[u8]) -> Answer {
+    let mut answer = [0; 6];
+    unsafe { wk_finished(places, bytes.as_ptr(), bytes.len(), &mut answer) }
+    answer
+}
+
+/// The tasks in the order in which the lowest ready one is stepped, as many as there is room for.
+pub fn schedule(places: &Places, bytes: &[u8], out: &mut [u8]) -> usize {
+    unsafe {
+        wk_schedule(
+            places,
+            bytes.as_ptr(),
+            bytes.len(),
+            out.as_mut_ptr(),
+            out.len(),
+        )
+    }
 }
 
 pub fn step(places: &mut Places, bytes: &[u8], memory: &mut [u32], task: usize) -> Answer {

@@ -101,3 +101,26 @@ pub fn replay_by_word(bytes: &[u8], memory: &mut [u32]) -> u64 {
         digest = mixed(digest, step_word(task, &s));
     }
 }
+
+/// 17 and no for an unsound run, else whether no task has accesses left.
+pub fn finished(run: &replayer::Run, bytes: &[u8]) -> [usize; 2] {
+    let number = replayer::ready(run, bytes).number as usize;
+    let done = number == 0 && (0..run.tasks).all(|task| run.count[task] <= run.done[task]);
+    [number, done.into()]
+}
+
+/// The lowest ready task, stepped again and again, as often as there is room.
+pub fn schedule(run: &replayer::Run, bytes: &[u8], room: usize) -> Vec<u8> {
+    let (mut run, mut tasks) = (run.clone(), Vec::new());
+    let mut memory = vec![0; run.objects.min(256)];
+    while tasks.len() < room {
+        let word = replayer::ready(&run, bytes).word;
+        if word == 0 {
+            break;
+        }
+        let task = replayer::lowest_ready(word) as usize;
+        replayer::step(&mut run, bytes, &mut memory, task);
+        tasks.push(task as u8);
+    }
+    tasks
+}

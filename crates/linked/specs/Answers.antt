@@ -12,6 +12,7 @@ use Rattle.recorder.specs.declared.Sectioned.{Sectioned}
 use Rattle.recorder.specs.declared.pack.Packed.{Packed}
 use Rattle.replayer.specs.declared.Opened.{Opened as ReplayOpened}
 use Rattle.replayer.specs.declared.ReadyWord.{ReadyWord}
+use Rattle.replayer.specs.declared.finish.Completion.{Completion}
 use Rattle.replayer.specs.declared.Stepped.{Stepped}
 use Rattle.replayer.specs.declared.alike.Compared.{Compared}
 use Rattle.replayer.specs.declared.to_end.Replayed.{Replayed}
@@ -42,6 +43,9 @@ replayOpenNumbers a = a .number ∷ a .offset ∷ []
 -- how many tasks are ready and the lowest of them are read off the word
 abbrev pub readyNumbers : ReadyWord → List ℕ
 readyNumbers a = a .number ∷ a .word ∷ readyCount (a .word) ∷ lowestReady (a .word) ∷ []
+
+abbrev pub finishedNumbers : Completion → List ℕ
+finishedNumbers a = a .number ∷ bit (a .finished) ∷ []
 
 abbrev pub stepNumbers : Stepped → List ℕ
 stepNumbers a = a .number ∷ a .offset ∷ a .kind ∷ a .object ∷ a .value ∷ a .access ∷ []

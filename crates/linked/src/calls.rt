@@ -6,6 +6,7 @@
 // table returns from a refused opening. `step_in_place` has no export of its own: a lent struct cannot be passed, and `wk_step` moves the
 // lent numbers on in place.
 ghost use mathlib.Core.Path.{_≡_};
+ghost use lib.ListN.{length};
 ghost use Rattle.codec.specs.Store.{store};
 ghost use Rattle.reader.specs.Calls.{checkedOf, bodyChecked};
 ghost use Rattle.reader.specs.Parse.{parse};
@@ -14,10 +15,12 @@ ghost use Rattle.recorder.specs.OpenOf.{openOf};
 ghost use Rattle.recorder.specs.SectionOf.{sectionOf};
 ghost use Rattle.replayer.specs.OpenOf.{openOf as replayOf};
 ghost use Rattle.replayer.specs.ReadyOf.{readyOf};
+ghost use Rattle.replayer.specs.Finish.{finishedCall};
+ghost use Rattle.replayer.specs.Schedule.{scheduleFrom};
 ghost use Rattle.replayer.specs.StepOf.{stepOf};
 ghost use Rattle.replayer.specs.Alike.{sameOutcomeOf};
 ghost use Rattle.replayer.specs.ToEnd.{toEndOf};
-ghost use Rattle.linked.specs.Answers.{openNumbers, accessNumbers, sectionNumbers, checkNumbers, replayOpenNumbers, readyNumbers, stepNumbers, sameNumbers, toEndNumbers};
+ghost use Rattle.linked.specs.Answers.{openNumbers, accessNumbers, sectionNumbers, checkNumbers, replayOpenNumbers, readyNumbers, finishedNumbers, stepNumbers, sameNumbers, toEndNumbers};
 ghost use Rattle.linked.specs.Halves.{stateIn, halvesOf, wordsOf, movedTo};
 ghost use Rattle.linked.specs.Places.{runIn, placesOf};
 use crate::layout::put_run;
@@ -25,9 +28,11 @@ use crate::layout::put_state;
 use crate::layout::run_of;
 use crate::layout::state_of;
 use replayer::alike::same_outcome;
+use replayer::finish::finished;
 use replayer::lowest_ready;
 use replayer::ready;
 use replayer::ready_count;
+use replayer::schedule::schedule;
 use replayer::to_end::replay_to_end;
 
 #[no_mangle]
@@ -152,6 +157,26 @@ pub extern "C" fn wk_ready(places: &[usize; 66], bytes: &[u8], answer: &mut [usi
     answer[1] = r.word as usize;
     answer[2] = ready_count(r.word) as usize;
     answer[3] = lowest_ready(r.word) as usize;
+}
+
+#[no_mangle]
+pub extern "C" fn wk_finished(places: &[usize; 66], bytes: &[u8], answer: &mut [usize; 6])
+    ensures { λ _. ⌜ now (answer .exit) ≡ store (now (answer .entry)) 0 (finishedNumbers (finishedCall (runIn (now (places .entry))) (now (bytes .entry)))) ⌝ }
+{
+    let run = run_of(places);
+    let r = finished(run, bytes);
+    answer[0] = r.number as usize;
+    answer[1] = r.finished as usize;
+}
+
+// The tasks in the order in which the lowest ready one is stepped first, a byte a step, and how many.
+#[no_mangle]
+pub extern "C" fn wk_schedule(places: &[usize; 66], bytes: &[u8], out: &mut [u8]) -> usize
+    ensures { λ r. ⌜ r ≡ length (scheduleFrom (length (now (out .entry))) (now (bytes .entry)) (runIn (now (places .entry)))) ⌝ }
+    ensures { λ r. ⌜ now (out .exit) ≡ store (now (out .entry)) 0 (scheduleFrom (length (now (out .entry))) (now (bytes .entry)) (runIn (now (places .entry)))) ⌝ }
+{
+    let run = run_of(places);
+    schedule(run, bytes, out)
 }
 
 #[no_mangle]
