@@ -9,7 +9,7 @@ use lib.ListN.{length}
 use Rattle.codec.specs.Decide.{passes, fails, split}
 use Rattle.script.specs.AccessLines.{accessLines}
 use Rattle.script.specs.AnswerOf.{longest, streamsOf, messageRoom, answerOf}
-use Rattle.script.specs.Message.{longText, messageOf}
+use Rattle.script.specs.Message.{longWord, messageOf}
 use Rattle.script.specs.RecordOf.{recordOf}
 use Rattle.script.specs.Session.{most}
 use Rattle.programs.specs.WholeRecording.{WholeRecording}
@@ -25,7 +25,7 @@ message-none line number e = elim (split (eqb line 0)) [
 streams-whole : (text : List ℕ) → streamsOf text .message ≡ [] → WholeRecording (streamsOf text .output) (recordOf text .memory) (accessLines text)
 unfolding streamsOf
 streams-whole text e = elim (split (ltb longest (length text))) [
-  | passes p ↦ let f : longText ≡ [] = rw p at e in let z : _≡_ {A = ℕ} 0 1 = cc in absurd (let y : ⊥ = omega arith in y)
+  | passes p ↦ let f : longWord ≡ [] = rw p at e in let z : _≡_ {A = ℕ} 0 1 = cc in absurd (let y : ⊥ = omega arith in y)
   | fails p ↦ rw p (whole-text text (message-none (recordOf text .line) (recordOf text .number) (rw p at e)))
 ]
 

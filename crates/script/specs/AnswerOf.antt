@@ -6,7 +6,7 @@ use lib.Dec.{ltb, leb}
 use lib.ListN.{length}
 use Rattle.text.specs.Appended.{Appended}
 use Rattle.script.specs.declared.Answered.{Answered}
-use Rattle.script.specs.Message.{longText, messageOf}
+use Rattle.script.specs.Message.{longWord, messageOf}
 use Rattle.script.specs.RecordOf.{recordOf}
 use Rattle.script.specs.Session.{most}
 
@@ -19,9 +19,10 @@ pub record Streams : Type 0 where
 abbrev pub longest : ℕ
 longest = 1048576
 
+-- the recording and no message, or no recording and a message
 unfoldable pub streamsOf : List ℕ → Streams
 streamsOf text =
-    cond (ltb longest (length text)) (record { output = []; message = longText })
+    cond (ltb longest (length text)) (record { output = []; message = longWord })
     (record { output = recordOf text .bytes; message = messageOf (recordOf text .line) (recordOf text .number) })
 
 -- every message has room in so many bytes

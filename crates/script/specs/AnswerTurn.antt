@@ -9,7 +9,7 @@ use Rattle.text.specs.AppendedLaws.{nothing, same-room}
 use Rattle.script.specs.declared.recording.Recorded.{Recorded}
 use Rattle.script.specs.AnswerOf.{longest, streamsOf, messageRoom, answerOf, Answers}
 use Rattle.script.specs.Front.{front-appended}
-use Rattle.script.specs.Message.{longText, messageOf}
+use Rattle.script.specs.Message.{longWord, messageOf}
 use Rattle.script.specs.RecordOf.{recordOf, Records}
 use Rattle.script.specs.Session.{most}
 
@@ -24,7 +24,7 @@ module _ (text out message : List ℕ) where
   short-message k h = rw (le-leb most (length out) k, lt-leb messageRoom (length message) h) (record { written = nothing out 0; told = nothing message 0; written-within = omega arith; told-within = omega arith })
 
   module _ (k : most ≤ length out) (h : messageRoom ≤ length message) (after : List ℕ) (told : ℕ) (l : told ≤ messageRoom) where
-    pub too-long : longest < length text → Appended longText message 0 after told
+    pub too-long : longest < length text → Appended longWord message 0 after told
         → Answers (answerOf (length out) (length message) text) (record { written = 0; told = told }) out out message after
     unfolding answerOf streamsOf
     too-long i a = rw (le-leb most (length out) k, le-leb messageRoom (length message) h, lt-ltb longest (length text) i) (record {

@@ -5,16 +5,23 @@ use Prim.Native.Nat.{ℕ}
 use lib.Dec.{eqb}
 use Rattle.text.specs.Decimal.{decimalOf, fieldOf}
 
--- `long` and a newline
-abbrev pub longText : List ℕ
-longText = 108 ∷ 111 ∷ 110 ∷ 103 ∷ 10 ∷ []
+-- `line `, `: malformed` and a newline, `: refused `, `long` and a newline
+abbrev pub lineWord : List ℕ
+lineWord = 108 ∷ 105 ∷ 110 ∷ 101 ∷ 32 ∷ []
 
--- `: malformed` and a newline for number 0, else `: refused `, the number and a newline
+abbrev pub malformedWord : List ℕ
+malformedWord = 58 ∷ 32 ∷ 109 ∷ 97 ∷ 108 ∷ 102 ∷ 111 ∷ 114 ∷ 109 ∷ 101 ∷ 100 ∷ 10 ∷ []
+
+abbrev pub refusedWord : List ℕ
+refusedWord = 58 ∷ 32 ∷ 114 ∷ 101 ∷ 102 ∷ 117 ∷ 115 ∷ 101 ∷ 100 ∷ 32 ∷ []
+
+abbrev pub longWord : List ℕ
+longWord = 108 ∷ 111 ∷ 110 ∷ 103 ∷ 10 ∷ []
+
+-- why a line stopped the text: malformed for number 0, else refused with the number, and a newline
 unfoldable pub reasonOf : ℕ → List ℕ
-reasonOf number =
-    cond (eqb number 0) (58 ∷ 32 ∷ 109 ∷ 97 ∷ 108 ∷ 102 ∷ 111 ∷ 114 ∷ 109 ∷ 101 ∷ 100 ∷ 10 ∷ [])
-    ((58 ∷ 32 ∷ 114 ∷ 101 ∷ 102 ∷ 117 ∷ 115 ∷ 101 ∷ 100 ∷ 32 ∷ []) ++ fieldOf number 10)
+reasonOf number = cond (eqb number 0) malformedWord (refusedWord ++ fieldOf number 10)
 
--- nothing for line 0, else `line `, the line and the reason
+-- the line and the reason; nothing for line 0, where no line stopped the text
 unfoldable pub messageOf : ℕ → ℕ → List ℕ
-messageOf line number = cond (eqb line 0) [] ((108 ∷ 105 ∷ 110 ∷ 101 ∷ 32 ∷ []) ++ decimalOf line ++ reasonOf number)
+messageOf line number = cond (eqb line 0) [] (lineWord ++ decimalOf line ++ reasonOf number)
