@@ -1,27 +1,24 @@
 -- A run over bytes goes as the replay of the history that the bytes record: what the two have in common, kept by every step.
-use mathlib.Core.Bool.{Bool, true, false, cond}
+use mathlib.Core.Bool.{true}
 use mathlib.Core.List.{List, [], _∷_}
 use mathlib.Core.Option.{Option, some, none}
 use mathlib.Core.Path.{_≡_, refl}
-use Prim.Native.Nat.{ℕ, suc, _+_, _<_}
+use Prim.Native.Nat.{ℕ, suc, _<_}
 use native.Mathlib.Omega.{arith}
 use borrow.Author.Tests.{lt-ltb, le-ltb}
 use lib.ListN.{length, getD}
 use Rattle.codec.specs.declared.Position.{Position}
-use Rattle.reader.specs.Bytes.{entryLength}
-use Rattle.reader.specs.Reading.{Reading, read}
-use Rattle.reader.specs.Recording.{Entry as FileEntry}
 use Rattle.history.specs.Entry.{Entry}
 use Rattle.history.specs.History.{History, count}
 use Rattle.history.specs.Access.{access-bound}
 use Rattle.history.specs.Replay.{State, next, allMet, isReady}
 use Rattle.history.specs.Ready.{next-access, next-none}
 use Rattle.replayer.specs.declared.TaskRun.{TaskRun}
-use Rattle.replayer.specs.declared.next.Next.the-variants.{Open, Held}
 use Rattle.replayer.specs.Left.{Left, left-entry}
 use Rattle.replayer.specs.Met.{allMet as allMetBy}
 use Rattle.replayer.specs.Moved.{Shaped}
-use Rattle.replayer.specs.Next.{entryNext, judged, nextOf, isOpen}
+use Rattle.replayer.specs.Next.{entryNext, nextOf}
+use Rattle.replayer.specs.NextLaws.{open-met}
 use Rattle.replayer.specs.ReadyOf.{isReady as isReadyBy}
 use Rattle.replayer.specs.Run.{taskAt, doneOf}
 use Rattle.replayer.specs.Sound.{soundOf}
@@ -44,14 +41,6 @@ met-same : (runs : List TaskRun) (done : ℕ → ℕ) (l : List Position) → ((
 unfolding allMetBy
 met-same runs done [] e = refl
 met-same runs done (p ∷ l) e = rw (e (p .task), met-same runs done l e)
-
-open-met : (runs : List TaskRun) (at : ℕ) (x : Reading FileEntry) (e : FileEntry) → x ≡ read e → isOpen (judged runs at x) ≡ allMetBy runs (e .orderings)
-unfolding judged
-open-met runs at x e p = rw p (cases (allMetBy runs (e .orderings)))
-  where
-    cases : (b : Bool) → isOpen (cond b (Open (e .op) (at + entryLength e)) Held) ≡ b
-    cases true = refl
-    cases false = refl
 
 module _ (h : History) (bytes : List ℕ) (tasks objects : ℕ) (s : State) (b : Bench) (i : Sim h bytes tasks objects s b) (t : ℕ) (low : t < tasks) where
   -- a task is ready on the bench exactly when it is in the replay of the history

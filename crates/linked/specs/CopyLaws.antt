@@ -11,8 +11,9 @@ use lib.Seq.{take-suc, length-take-le}
 use Rattle.codec.specs.Decide.{passes, fails, split}
 use Rattle.codec.specs.Number.{noRoom}
 use Rattle.codec.specs.Store.{store, store-none, store-behind}
-use Rattle.reader.specs.Calls.{bodyPart, bodyChecked}
+use Rattle.reader.specs.Calls.{bodySpan, bodyPart, bodyChecked}
 use Rattle.reader.specs.Parse.{Parsed, parse}
+use Rattle.reader.specs.Part.{part}
 use Rattle.reader.specs.Positive.{parse-positive}
 use Rattle.reader.specs.Reading.{Reading, refused, read, stop, Positive}
 use Rattle.linked.specs.CopyOf.{refusedCopy, copied, copyOf}
@@ -35,7 +36,7 @@ accepted (read p) task q e = elim (split (ltb task (p .recording .tasks))) [
 
 -- a part that has bytes is no refusal's
 taken : (r : Reading Parsed) (task : ℕ) (b : List ℕ) → (length (bodyPart r task b) ≡ 0 → ⊥) → bodyChecked r task ≡ stop 0 0
-unfolding bodyChecked bodyPart
+unfolding bodyChecked bodySpan part
 taken (refused c) task b h = absurd (h refl)
 taken (read p) task b h = elim (split (ltb task (p .recording .tasks))) [
   | passes t ↦ rw t

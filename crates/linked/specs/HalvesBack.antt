@@ -10,7 +10,7 @@ use Rattle.tracker.specs.declared.Locality.{Locality}
 use Rattle.tracker.specs.declared.Locality.the-variants.{WriteExclusive, ReadExclusive, ReadShared}
 use Rattle.tracker.specs.declared.State.{State}
 use Rattle.tracker.specs.State.{holderOf, shareOf, owned, Shaped}
-use Rattle.linked.specs.Each.{each, each-length, each-at, each-of}
+use Rattle.replayer.specs.Each.{each, each-length, each-at, each-of}
 use Rattle.linked.specs.Halves.{recordOf, recordIn, entriesIn, stateIn, caseOf, localityAt, halvesOf, wordsOf}
 use Rattle.linked.specs.Stores.{store-whole, behind}
 

@@ -6,7 +6,7 @@ use native.Mathlib.Omega.{arith}
 use borrow.Author.Tests.{eq-eqb, ne-eqb}
 use lib.ListN.{length, set, length-append}
 use Rattle.codec.specs.Store.{store, store-behind}
-use Rattle.linked.specs.Each.{each}
+use Rattle.replayer.specs.Each.{each}
 use Rattle.linked.specs.Halves.{movedTo}
 use Rattle.linked.specs.Stores.{store-set, store-swap, store-more}
 

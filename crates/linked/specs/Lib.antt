@@ -1,7 +1,6 @@
 pub mod Answers
 pub mod CopyOf
 pub mod CopyLaws
-pub mod Each
 pub mod Halves
 pub mod HalvesBack
 pub mod HalvesTurn

@@ -12,7 +12,7 @@ use Rattle.tracker.specs.Range.{within-below}
 use Rattle.tracker.specs.Scan.{scan-bad}
 use Rattle.tracker.specs.Sound.{objectSound, soundOf}
 use Rattle.tracker.specs.State.{owned}
-use Rattle.linked.specs.Each.{each-at}
+use Rattle.replayer.specs.Each.{each-at}
 use Rattle.linked.specs.Halves.{recordOf, recordIn, stateIn}
 
 without-meaning : (case task share : ℕ) → 2 < case → recordOf case task share ≡ record { locality = ReadShared 0 }

@@ -5,7 +5,7 @@ use lib.ListN.{getD}
 use Rattle.replayer.specs.declared.TaskRun.{TaskRun}
 use Rattle.replayer.specs.declared.Run.{Run}
 use Rattle.replayer.specs.Run.{taskAt}
-use Rattle.linked.specs.Each.{each}
+use Rattle.replayer.specs.Each.{each}
 
 -- the run that an array means
 abbrev pub taskIn : List ℕ → ℕ → TaskRun

@@ -11,7 +11,7 @@ use Rattle.replayer.specs.declared.TaskRun.{TaskRun}
 use Rattle.replayer.specs.declared.Run.{Run}
 use Rattle.replayer.specs.Moved.{Shaped}
 use Rattle.replayer.specs.Run.{taskAt, blankTask}
-use Rattle.linked.specs.Each.{each-of}
+use Rattle.replayer.specs.Each.{each-of}
 use Rattle.linked.specs.Places.{taskIn, runIn, taskPlaces, firstPlaces, placesOf}
 use Rattle.linked.specs.PlacesTurn.{places-length}
 use Rattle.linked.specs.Stores.{store-whole, behind}

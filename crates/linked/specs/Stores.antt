@@ -7,7 +7,7 @@ use native.Mathlib.Omega.{arith}
 use lib.ListN.{length, getD, set, drop-of-length-le}
 use lib.Seq.{set-comm, getD-append-add}
 use Rattle.codec.specs.Store.{store, store-behind, store-split}
-use Rattle.linked.specs.Each.{each, each-length}
+use Rattle.replayer.specs.Each.{each, each-length}
 
 -- an entry in front of a part that is stored
 pub store-set : (l : List ℕ) (i at v : ℕ) (xs : List ℕ) → i < at → set (store l at xs) i v ≡ store (set l i v) at xs

@@ -6,7 +6,7 @@
 ghost use mathlib.Core.Path.{_≡_};
 ghost use Rattle.codec.specs.Store.{store};
 ghost use Rattle.tracker.specs.Marks.{marksOf};
-ghost use Rattle.linked.specs.Each.{each};
+ghost use Rattle.replayer.specs.Each.{each};
 ghost use Rattle.linked.specs.Halves.{recordOf, recordIn, stateIn, caseOf, casesOf, holdersOf, sharesOf, firstOf, halvesOf, wordsOf};
 ghost use Rattle.linked.specs.Places.{runIn, placesOf};
 use codec::Position;

@@ -1,9 +1,8 @@
 -- Every text that `record` makes a recording of: `replay` shows each of its accesses, and the memory that it leaves.
-use mathlib.Core.Bool.{true, cond, _&&_}
-use mathlib.Core.List.{List, [], _∷_, _++_, append-assoc, append-nil}
+use mathlib.Core.Bool.{true, _&&_}
+use mathlib.Core.List.{List, [], _∷_, _++_}
 use mathlib.Core.Path.{_≡_, refl, sym, ap, _∙_, fun-ext}
-use Prim.Native.Nat.{ℕ, suc, _+_, _≤_}
-use native.Mathlib.Numerals.{add-one}
+use Prim.Native.Nat.{ℕ, suc, _+_}
 use native.Mathlib.Omega.{arith}
 use native.Mathlib.Decide.{ℕ-discrete}
 use borrow.Author.Tests.{eq-eqb, ne-eqb}
@@ -30,13 +29,12 @@ use Rattle.fidelity.specs.Box.{Opening, Asked, lastBox, recorded, recordingOf, 
 use Rattle.fidelity.specs.BoxMatches.{owner-each}
 use Rattle.fidelity.specs.Statement.{Accepted, Shows, Faithful, after, done}
 use Rattle.fidelity.specs.Theorem.{demand-3, run-finished}
-use Rattle.script.specs.AccessLines.{accessLines}
 use Rattle.script.specs.RecordOf.{recordOf}
-use Rattle.transcript.specs.Lines.{lineOf, endOf, memoryOf}
+use Rattle.transcript.specs.Lines.{lineOf}
 use Rattle.transcript.specs.TextLaws.{text-of-steps}
 use Rattle.transcript.specs.Told.{linesOf}
 use Rattle.programs.specs.Both.{accessLine, Lines, none, more, Shown}
-use Rattle.programs.specs.WholeRecording.{outsOf, WholeRecording}
+use Rattle.programs.specs.WholeRecording.{outsOf}
 use Rattle.programs.specs.WholeText.{whole-text}
 
 -- the line of a step that shows an act

@@ -1,6 +1,6 @@
 -- What an access that may be done tells: it was read from the task's place, its object is below N, it ends within the body.
 use mathlib.Core.Path.{_≡_, refl}
-use mathlib.Core.Bool.{true}
+use mathlib.Core.Bool.{Bool, true, false, cond}
 use mathlib.Core.List.{List}
 use Prim.Native.Nat.{ℕ, _+_, _≤_, _<_}
 use native.Mathlib.Omega.{arith}
@@ -21,7 +21,7 @@ use Rattle.replayer.specs.declared.Run.{Run}
 use Rattle.replayer.specs.declared.next.Next.the-variants.{Open, Held, Refused}
 use Rattle.replayer.specs.Run.{taskAt, limitsOf}
 use Rattle.replayer.specs.Met.{allMet}
-use Rattle.replayer.specs.Next.{entryNext, judged, nextOf}
+use Rattle.replayer.specs.Next.{entryNext, judged, nextOf, isOpen}
 
 -- the entry that an open access is
 pub record OpenEntry (runs : List TaskRun) (at : ℕ) (x : Reading Entry) (o : Op) (n : ℕ) : Type 0 where
@@ -77,3 +77,12 @@ module _ (r : Run) (b : List ℕ) (t : ℕ) where
   unfolding nextOf entryNext
   next-positive c h = judged-refused (r .runs) (taskAt (r .runs) t .place) (entryNext r b t) c
       (entry-positive (limitsOf r t) (stop inBody (taskAt (r .runs) t .place)) (taskAt (r .runs) t .place) (part (taskAt (r .runs) t .place) (taskAt (r .runs) t .end) b) (omega arith)) h
+
+-- an entry that is read is open exactly if its orderings are met
+pub open-met : (runs : List TaskRun) (at : ℕ) (x : Reading Entry) (e : Entry) → x ≡ read e → isOpen (judged runs at x) ≡ allMet runs (e .orderings)
+unfolding judged
+open-met runs at x e p = rw p (cases (allMet runs (e .orderings)))
+  where
+    cases : (b : Bool) → isOpen (cond b (Open (e .op) (at + entryLength e)) Held) ≡ b
+    cases true = refl
+    cases false = refl

@@ -45,7 +45,7 @@ pub none-more : (r : Run) (b : List ℕ) (t : ℕ) → ((s : ℕ) → s < t → 
 none-more r b t g p s h = elim (ℕ-discrete s t) [ yes e ↦ rw e p | no e ↦ g s (omega (arith, e)) ]
 
 -- at first nothing is noted
-pub zeros-at : (n t : ℕ) → _≡_ {A = ℕ} (getD (replicate n 0) t 0) 0
+zeros-at : (n t : ℕ) → _≡_ {A = ℕ} (getD (replicate n 0) t 0) 0
 zeros-at zero t = refl
 zeros-at (suc n) zero = refl
 zeros-at (suc n) (suc t) = zeros-at n t

@@ -18,7 +18,7 @@ use reader::entry::entry_at;
 use reader::entry::ordering_at;
 
 // An access that may be done now and the place behind it; one that an ordering holds; or records that do not read.
-pub enum Next {
+pub(crate) enum Next {
     Open { op: Op, next: usize },
     Held,
     Refused(Checked),
@@ -81,7 +81,7 @@ pub(crate) fn look_at(
 }
 
 // The counts done, one for each task.
-pub fn dones_of(run: Run) -> [usize; 16]
+pub(crate) fn dones_of(run: Run) -> [usize; 16]
     ensures { λ r. ⌜ r ≡ donesOf (run .runs) ⌝ }
 {
     let mut dones = [0usize; 16];

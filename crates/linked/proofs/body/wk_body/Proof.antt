@@ -21,7 +21,7 @@ returns : tie.Need-returns
 returns c =
     let a = c .before .before .before .before .before .before .before .before .args in
     let b = c .before .before .before .before .before .body in
-    rw (copy-none (now (a .bytes)) (a .task) (now (b .result)) (now (a .out)) (b .ensures) (c .before .before .before .before .if1 .taken)) (rw (c .before .before .before .body-check .ensures) at (c .put-three .ensures), refl)
+    rw (copy-none (now (a .bytes)) (a .task) (now (b .result)) (now (a .out)) (b .ensures .0) (c .before .before .before .before .if1 .taken)) (rw (c .before .before .before .body-check .ensures) at (c .put-three .ensures), refl)
 
 cast-put-three-2 : tie.Need-cast-put-three-2
 cast-put-three-2 c = search needs
@@ -33,7 +33,7 @@ returns-2 : tie.Need-returns-2
 returns-2 c =
     let a = c .before .before .before .before .before .before .before .args in
     let b = c .before .before .before .before .body in
-    rw (copy-room (now (a .bytes)) (a .task) (now (b .result)) (now (a .out)) (b .ensures) (c .before .before .before .if1 .left) (c .before .before .if2 .taken)) (c .put-three2 .ensures, refl)
+    rw (copy-room (now (a .bytes)) (a .task) (now (b .result)) (now (a .out)) (b .ensures .0) (c .before .before .before .if1 .left) (c .before .before .if2 .taken)) (c .put-three2 .ensures, refl)
 
 put-bytes-requires : tie.Need-put-bytes-requires
 put-bytes-requires c κs = search needs
@@ -48,7 +48,7 @@ returns-3 : tie.Need-returns-3
 returns-3 c =
     let a = c .before .before .before .before .before .before .before .before .before .before .before .args in
     let b = c .before .before .before .before .before .before .before .before .body in
-    rw (copy-all (now (a .bytes)) (a .task) (now (b .result)) (now (a .out)) (b .ensures) (c .before .before .before .before .before .before .before .if1 .left) (c .before .before .before .before .before .before .if2 .left)) (c .put-three3 .ensures, c .before .before .before .before .put-bytes .ensures)
+    rw (copy-all (now (a .bytes)) (a .task) (now (b .result)) (now (a .out)) (b .ensures .0) (c .before .before .before .before .before .before .before .if1 .left) (c .before .before .before .before .before .before .if2 .left)) (c .put-three3 .ensures, c .before .before .before .before .put-bytes .ensures)
 
 pub wk-body-spec : {M : Type 1} → statement M
 wk-body-spec =

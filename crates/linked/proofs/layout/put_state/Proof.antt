@@ -1,4 +1,4 @@
-use Rattle.linked.specs.Each.{each-length}
+use Rattle.replayer.specs.Each.{each-length}
 use Rattle.linked.specs.HalvesTurn.{halves-all, words-all}
 use borrow.Author.Needs.{needs}
 use Rattle.linked.proofs.layout.put_state.Statement.{statement}
