@@ -1,7 +1,7 @@
 -- Every text that `record` makes a recording of: `replay` shows each of its accesses, and the memory that it leaves.
 use mathlib.Core.Bool.{true, _&&_}
 use mathlib.Core.List.{List, [], _∷_, _++_}
-use mathlib.Core.Path.{_≡_, refl, sym, ap, _∙_, fun-ext}
+use mathlib.Core.Path.{_≡_, refl, sym, ap, subst, _∙_, fun-ext}
 use Prim.Native.Nat.{ℕ, suc, _+_}
 use native.Mathlib.Omega.{arith}
 use native.Mathlib.Decide.{ℕ-discrete}
@@ -19,7 +19,7 @@ use Rattle.replayer.specs.declared.Stepped.{Stepped}
 use Rattle.replayer.specs.Finish.{Play, finishedOf}
 use Rattle.replayer.specs.FinishLaws.{Playing}
 use Rattle.replayer.specs.OpenLaws.{opened-stands, open-accepts}
-use Rattle.replayer.specs.OpenOf.{openedRun}
+use Rattle.replayer.specs.OpenOf.{openedRun, openOf}
 use Rattle.replayer.specs.Schedule.{scheduleOf, playedBy}
 use Rattle.replayer.specs.ReadyOf.{readyOf}
 use Rattle.replayer.specs.ScheduleLaws.{AllTaken as AllTakenBy, schedule-taken, schedule-ends}
@@ -111,8 +111,11 @@ module _ (o : Opening) (asked : List Asked) (outs : ℕ → List ℕ) (lent : Li
   playing : Playing b start
   playing = let s = opened-stands b p e in record { sound = s .sound; shaped = s .shaped; entries = s .values }
 
+  opens : openOf b lent ≡ record { answer = record { number = 0; offset = 0; run = openedRun p }; memory = p .recording .values }
+  opens = open-accepts b lent p e (each ∙ sym (owner-each o (a .opened)) ∙ sym (ap (λ (r : Recording). length (r .owners)) same))
+
   first-is : benchOf b lent ≡ record { run = openedRun p; memory = p .recording .values }
-  first-is = rw (open-accepts b lent p e (each ∙ sym (owner-each o (a .opened)) ∙ sym (ap (λ (r : Recording). length (r .owners)) same)))
+  first-is = rw opens
 
   ends-as : record { run = playedBy b start steps .run; memory = playedBy b start steps .memory } ≡ after o asked outs lent steps
   ends-as = play-bench b start steps ∙ ap (λ (x : Bench). steppedAll b x steps) (sym first-is)
@@ -125,7 +128,9 @@ module _ (o : Opening) (asked : List Asked) (outs : ℕ → List ℕ) (lent : Li
 
   pub shown-lines : Lines (recorded o asked) (λ t. 0) steps (linesOf b (openedRun p) (p .recording .values) steps)
   unfolding tallyOf steppedAll
-  shown-lines = rw first-is at (lines-all o asked outs lent (demand-3 o asked outs lent a) [] steps (rw first-is (bench-taken b start steps (schedule-taken b start playing))))
+  shown-lines =
+      subst (λ (x : Bench). Lines (recorded o asked) (λ t. 0) steps (linesOf b (x .run) (x .memory) steps)) first-is
+      (lines-all o asked outs lent (demand-3 o asked outs lent a) [] steps (rw first-is (bench-taken b start steps (schedule-taken b start playing))))
 
   pub shown-count : length steps ≡ length (recorded o asked)
   shown-count = sym all-taken ∙ all-done
@@ -141,7 +146,7 @@ both text z =
     let w = whole-text text z in
     let o = w .opening in
     let outs = outsOf (lastBox o (w .asked)) in
-    let lent = replicate (o .objects) 0 in
+    let lent = replicate {A = ℕ} (o .objects) 0 in
     let each : length lent ≡ o .objects = length-replicate {A = ℕ} (o .objects) 0 in
     let a = w .accepted lent each in
     let (p, e, same) = demand-3 o (w .asked) outs lent a .reads-back in

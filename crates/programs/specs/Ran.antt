@@ -21,7 +21,6 @@ use Rattle.fidelity.specs.FirstBox.{follows-last}
 use Rattle.script.specs.Front.{store-front}
 use Rattle.programs.specs.Numbered.{Numbered}
 use Rattle.programs.specs.Wanted.{wantedIn, wantedBy}
-use Rattle.script.specs.declared.asked.Asked.{Asked as Wanted}
 use Rattle.script.specs.Asked.{askedBy, askedOf, isNumber}
 use Rattle.script.specs.Fields.{fieldsOf}
 use Rattle.script.specs.Lines.{Line}
@@ -95,10 +94,6 @@ asked-fits f g = elim (split (eqb (length f) 3)) [
   ]
 ]
 
--- what a line that is not malformed wants is what its call asks for
-wanted-good : (a : Wanted) → a .good ≡ true → record { good = true; task = a .task; object = a .object; sort = a .sort; value = a .value } ≡ a
-wanted-good a g = rw (← g)
-
 module _ (o : Opening) (z : openedBy o .answer .number ≡ 0) (base : ℕ) where
   -- a session that lines led to from the opening: a call for each of them, in their order, one access recorded for each, and what is in
   -- the logs counted
@@ -121,11 +116,11 @@ module _ (o : Opening) (z : openedBy o .answer .number ≡ 0) (base : ℕ) where
     counted = λ e. absurd (let z : ⊥ = omega arith in z);
   }
 
-  ran-asking : (ls : List Line) (s : Session) (l : Line) → 1 ≤ l .number → s .line ≡ 0 → Ran ls s → wantedIn l .good ≡ true
-      → Ran (ls ++ (l ∷ [])) (asking s (l .number) (callOf (s .total) (wantedIn l)))
+  ran-asking : (ls : List Line) (s : Session) (l : Line) → 1 ≤ l .number → s .line ≡ 0 → Ran ls s → askedOf (fieldsOf (l .bytes)) .good ≡ true
+      → Ran (ls ++ (l ∷ [])) (asking s (l .number) (callOf (s .total) (askedOf (fieldsOf (l .bytes)))))
   unfolding asking called outcome
   ran-asking ls s l h i r g =
-      let a = wantedIn l in
+      let a = askedOf (fieldsOf (l .bytes)) in
       let b = s .box in
       let c = callOf (s .total) a in
       let x : Asked = record { call = c; fits = asked-fits (fieldsOf (l .bytes)) g } in
@@ -143,7 +138,7 @@ module _ (o : Opening) (z : openedBy o .answer .number ≡ 0) (base : ℕ) where
               box = ap (λ (y : Box). called y c) (r .box) ∙ sym (last-more (firstBox o) (r .asked) x);
               total = omega (arith, r .total, m, w);
               fits = omega (arith, r .fits, same .within);
-              asks = λ _. rw (map-append wantedBy (r .asked) (x ∷ []), map-append wantedIn ls (l ∷ []), r .asks i, wanted-good a g);
+              asks = λ _. rw (map-append wantedBy (r .asked) (x ∷ []), map-append wantedIn ls (l ∷ []), r .asks i);
               counted = λ _. rw length-append (omega (arith, k, r .counted i));
             })
       ]
@@ -159,7 +154,7 @@ module _ (o : Opening) (z : openedBy o .answer .number ≡ 0) (base : ℕ) where
       asks = λ e. absurd (eqb-false _ _ p e);
       counted = λ e. absurd (eqb-false _ _ p e);
     })
-    | passes p ↦ elim (split (wantedIn l .good)) [
+    | passes p ↦ elim (split (askedOf (fieldsOf (l .bytes)) .good)) [
       | fails g ↦ rw (p, g) (ran-stop ls s l (l .number) 0 h r)
       | passes g ↦ rw (p, g) (ran-asking ls s l h (eqb-true _ _ p) r g)
     ]

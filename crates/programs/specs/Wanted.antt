@@ -1,13 +1,23 @@
--- The access that a line of a text wants, and the one that a call asks for: task, object, sort and value.
-use mathlib.Core.Bool.{true}
-use Rattle.script.specs.declared.asked.Asked.{Asked as Wanted}
+-- The access that a line of a text wants, and the one that a call asks for.
+use Prim.Native.Nat.{ℕ}
 use Rattle.script.specs.Asked.{askedOf}
 use Rattle.script.specs.Fields.{fieldsOf}
 use Rattle.script.specs.Lines.{Line}
 use Rattle.fidelity.specs.Box.{Asked}
 
+pub record Wanted : Type 0 where
+  pub task : ℕ
+  pub object : ℕ
+  pub sort : ℕ
+  pub value : ℕ
+
 abbrev pub wantedIn : Line → Wanted
-wantedIn l = askedOf (fieldsOf (l .bytes))
+wantedIn l = record {
+  task = askedOf (fieldsOf (l .bytes)) .task;
+  object = askedOf (fieldsOf (l .bytes)) .object;
+  sort = askedOf (fieldsOf (l .bytes)) .sort;
+  value = askedOf (fieldsOf (l .bytes)) .value;
+}
 
 abbrev pub wantedBy : Asked → Wanted
-wantedBy x = record { good = true; task = x .call .task; object = x .call .object; sort = x .call .sort; value = x .call .value }
+wantedBy x = record { task = x .call .task; object = x .call .object; sort = x .call .sort; value = x .call .value }
