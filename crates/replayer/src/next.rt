@@ -15,7 +15,8 @@ use reader::Checked;
 use reader::Limits;
 use reader::entry::Found;
 use reader::entry::entry_at;
-use reader::entry::ordering_at;
+use reader::entry::number_at;
+use reader::entry::source_at;
 
 // An access that may be done now and the place behind it; one that an ordering holds; or records that do not read.
 pub(crate) enum Next {
@@ -49,9 +50,9 @@ pub(crate) fn first_unmet(bytes: &[u8], from: usize, at: usize, dones: &[usize; 
 {
     let mut place = from;
     while place < at {
-        let p = ordering_at(bytes, place);
-        let source = p.task as usize;
-        if dones[source] < p.number as usize {
+        let source = source_at(bytes, place) as usize;
+        let number = number_at(bytes, place) as usize;
+        if dones[source] < number {
             return place;
         }
         place += length_of(ORDERING) as usize;

@@ -29,25 +29,28 @@ passing c = let p = c .before .before .before .pre in turn c (p .limits) (p .fro
 loop-holds : tie.Need-loop-holds Inv-loop μ-loop
 loop-holds c = λ m start end w. w
 
-ordering-at-requires : tie.Need-ordering-at-requires Inv-loop μ-loop
-ordering-at-requires c κs = search needs
+source-at-requires : tie.Need-source-at-requires Inv-loop μ-loop
+source-at-requires c κs = passing c .room
 
 cast-source : tie.Need-cast-source Inv-loop μ-loop
 cast-source c = search needs
 
+number-at-requires : tie.Need-number-at-requires Inv-loop μ-loop
+number-at-requires c κs = passing (c .before) .room
+
+cast-number : tie.Need-cast-number Inv-loop μ-loop
+cast-number c = search needs
+
 mul-if1 : tie.Need-mul-if1 Inv-loop μ-loop
-mul-if1 c = omega (arith, rw (← c .before .ordering-at .ensures) at (passing (c .before .before) .below))
+mul-if1 c = omega (arith, passing (c .before .before) .below, c .before .source-at .ensures)
 
 element-copy-out-if1 : tie.Need-element-copy-out-if1 Inv-loop μ-loop
-element-copy-out-if1 c = rw (← c .before .ordering-at .ensures) at (passing (c .before .before) .below)
-
-cast-if1 : tie.Need-cast-if1 Inv-loop μ-loop
-cast-if1 c = search needs
+element-copy-out-if1 c = omega (arith, passing (c .before .before) .below, c .before .source-at .ensures)
 
 returns : tie.Need-returns Inv-loop μ-loop
 returns c = λ m start end w. record {
-  ahead = c .before .before .before .before .before .before .loop .inv m start end w;
-  held = λ h. turn (c .before .before .before .before .before) m start end w .unmet (rw (c .before .before .before .before .ordering-at .ensures) at (c .if1 .taken));
+  ahead = c .before .before .before .before .before .loop .inv m start end w;
+  held = λ h. turn (c .before .before .before .before) m start end w .unmet (rw (c .before .before .before .source-at .ensures, c .before .before .number-at .ensures) at (c .if1 .taken));
 }
 
 length-of-requires : tie.Need-length-of-requires Inv-loop μ-loop
@@ -57,13 +60,13 @@ cast-place : tie.Need-cast-place Inv-loop μ-loop
 cast-place c = omega (arith, c .length-of .ensures)
 
 add-place : tie.Need-add-place Inv-loop μ-loop
-add-place c = omega (arith, passing (c .before .before .before .before .before .before) .room, c .length-of .ensures)
+add-place c = omega (arith, passing (c .before .before .before .before .before) .room, c .length-of .ensures)
 
 loop-less : tie.Need-loop-less Inv-loop μ-loop
-loop-less c = omega (arith, c .before .before .before .before .before .before .loop-test .taken, c .length-of .ensures)
+loop-less c = omega (arith, c .before .before .before .before .before .loop-test .taken, c .length-of .ensures)
 
 loop-again : tie.Need-loop-again Inv-loop μ-loop
-loop-again c = rw (c .length-of .ensures) (λ m start end w. turn (c .before .before .before .before .before .before) m start end w .met (rw (c .before .before .before .before .before .ordering-at .ensures) at (c .before .if1 .left)))
+loop-again c = rw (c .length-of .ensures) (λ m start end w. turn (c .before .before .before .before .before) m start end w .met (rw (c .before .before .before .before .source-at .ensures, c .before .before .before .number-at .ensures) at (c .before .if1 .left)))
 
 returns-2 : tie.Need-returns-2 Inv-loop μ-loop
 returns-2 c = λ m start end w. record { ahead = c .before .loop .inv m start end w; held = λ h. absurd (omega (arith, h, c .loop-test .left)) }
@@ -75,11 +78,12 @@ first-unmet-spec =
     Inv-loop
     μ-loop
     loop-holds
-    ordering-at-requires
+    source-at-requires
     cast-source
+    number-at-requires
+    cast-number
     mul-if1
     element-copy-out-if1
-    cast-if1
     returns
     length-of-requires
     cast-place
