@@ -27,7 +27,7 @@ use Rattle.reader.specs.Recording.{Entry}
 use Rattle.reader.specs.Bytes.{orderingsBytes, entryBytes, entryLength, entry-long, bodyBytes}
 use Rattle.reader.specs.Range.{PositionIn, OpIn, EntryIn, EntriesIn}
 use Rattle.reader.specs.Entry.{after, orderingOk, accessOk, onRecord, accessOf, entryFrom, entryOf}
-use Rattle.reader.specs.Body.{bodyFrom, bodyOf}
+use Rattle.reader.specs.Body.{bodyFrom, bodyEntries}
 
 -- an entry: the bytes begin with it
 abbrev Came : Limits → List ℕ → Reading Entry → Type 0
@@ -114,9 +114,9 @@ body-from (suc f) m at (x ∷ b) h by =
     go ih (refused c) w = tt
     go ih (read e) w = came-more m (x ∷ b) e (bodyFrom f m (at + entryLength e) (drop (entryLength e) (x ∷ b))) (w .0) (w .1) (ih e)
 
-pub body-came : (m : Limits) (at : ℕ) (b : List ℕ) → Bytes b → CameBody m b (bodyOf m at b)
-unfolding bodyOf
+pub body-came : (m : Limits) (at : ℕ) (b : List ℕ) → Bytes b → CameBody m b (bodyEntries m at b)
+unfolding bodyEntries
 body-came m at b by = body-from (length b) m at b (omega arith) by
 
-pub body-strict : (m : Limits) (at : ℕ) (b : List ℕ) (es : List Entry) → Bytes b → bodyOf m at b ≡ read es → (b ≡ bodyBytes es) × EntriesIn m es
+pub body-strict : (m : Limits) (at : ℕ) (b : List ℕ) (es : List Entry) → Bytes b → bodyEntries m at b ≡ read es → (b ≡ bodyBytes es) × EntriesIn m es
 body-strict m at b es by q = rw q at (body-came m at b by)

@@ -13,18 +13,18 @@ use Rattle.reader.specs.Reading.{read, stop}
 use Rattle.reader.specs.Recording.{Entry, Recording}
 use Rattle.reader.specs.Bytes.{sectionsBytes, bytesOf}
 use Rattle.reader.specs.Range.{BodiesIn, HeadIn}
-use Rattle.reader.specs.Body.{bodyOf, walkOf, judged, tally}
+use Rattle.reader.specs.Body.{bodyEntries, walkOf, judged, tally}
 use Rattle.reader.specs.BodyStrict.{body-strict}
 use Rattle.reader.specs.Parse.{parse}
 use Rattle.reader.specs.Roundtrip.{parse-back, spansOf}
 
-pub reads-walk : (m : Limits) (at : ℕ) (b : List ℕ) (es : List Entry) (wrong : ℕ) → bodyOf m at b ≡ read es → walkOf m at b (length es) wrong ≡ stop 0 0
+pub reads-walk : (m : Limits) (at : ℕ) (b : List ℕ) (es : List Entry) (wrong : ℕ) → bodyEntries m at b ≡ read es → walkOf m at b (length es) wrong ≡ stop 0 0
 unfolding walkOf judged tally
 reads-walk m at b es wrong q = let o : 0 + length es ≡ length es = omega arith in rw (q, o, eq-eqb (length es) (length es) refl)
 
 pub record LogRead (m : Limits) (log : List ℕ) (es : List Entry) : Type 0 where
   pub bytes : Bytes log
-  pub reads : bodyOf m 0 log ≡ read es
+  pub reads : bodyEntries m 0 log ≡ read es
   pub count : length es < 65536
   pub size : length log < 4294967296
 

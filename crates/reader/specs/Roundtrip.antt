@@ -23,7 +23,7 @@ use Rattle.reader.specs.Recording.{Entry, Recording}
 use Rattle.reader.specs.Bytes.{orderingsBytes, entryBytes, entryLength, entry-long, entry-length, bodyBytes, sectionsBytes, bytesOf}
 use Rattle.reader.specs.Range.{PositionIn, OpIn, OrderingsIn, EntryIn, EntriesIn, BodyIn, BodiesIn, AllUnder, HeadIn, InRange}
 use Rattle.reader.specs.Entry.{orderingOk, accessOk, onRecord, accessOf, entryOf, entry-ordering, entry-step}
-use Rattle.reader.specs.Body.{bodyOf, body-end, body-step}
+use Rattle.reader.specs.Body.{bodyEntries, body-end, body-step}
 use Rattle.reader.specs.Section.{TaskBody, spanOf, bodyStart, taken, sectionBody, onSection, sectionAt, sectionsOf}
 use Rattle.reader.specs.Parse.{ownersOf, valuesOf, allBelow, sizesOk, onHead, headAt, sectionsAfter, parse}
 
@@ -67,7 +67,7 @@ module _ (m : Limits) (s : Small m) where
   unfolding entryBytes
   entry-back ended at e r i = rw append-assoc (orderings-back ended at (e .orderings) (e .op) r (i .orderings) (i .op))
 
-  pub body-back : (at : ℕ) (es : List Entry) → EntriesIn m es → bodyOf m at (bodyBytes es) ≡ read es
+  pub body-back : (at : ℕ) (es : List Entry) → EntriesIn m es → bodyEntries m at (bodyBytes es) ≡ read es
   unfolding bodyBytes
   body-back at [] i = body-end m at [] refl
   body-back at (e ∷ es) i =

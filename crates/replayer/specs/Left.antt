@@ -8,7 +8,7 @@ use lib.ListN.{length, getD, drop}
 use Rattle.codec.specs.Number.{inBody}
 use Rattle.reader.specs.declared.Limits.{Limits}
 use Rattle.reader.specs.Bodies.{parse-bodies}
-use Rattle.reader.specs.Body.{bodyOf, body-end, body-step}
+use Rattle.reader.specs.Body.{bodyEntries, body-end, body-step}
 use Rattle.reader.specs.Bytes.{entryLength}
 use Rattle.reader.specs.Calls.{noSpan}
 use Rattle.reader.specs.Entry.{entryOf}
@@ -26,7 +26,7 @@ use Rattle.replayer.specs.OpenLaws.{opened-stands}
 
 -- the bytes from the task's place to its body's end read as these accesses
 abbrev pub LeftOf : Limits → TaskRun → List ℕ → List Entry → Type 0
-LeftOf m x b es = bodyOf m (x .place) (part (x .place) (x .end) b) ≡ read es
+LeftOf m x b es = bodyEntries m (x .place) (part (x .place) (x .end) b) ≡ read es
 
 abbrev pub Left : Run → List ℕ → ℕ → List Entry → Type 0
 Left r b t es = LeftOf (limitsOf r t) (taskAt (r .runs) t) b es
@@ -37,13 +37,13 @@ record First (m : Limits) (x : TaskRun) (b : List ℕ) (e : Entry) (es : List En
   pub rest : LeftOf m (advanced x (x .place + entryLength e)) b es
 
 first-of : (m : Limits) (at : ℕ) (e : Entry) (es : List Entry) (l : List ℕ) (y : Reading Entry)
-    → andThen y (λ f. mapped (λ fs. f ∷ fs) (bodyOf m (at + entryLength f) (drop (entryLength f) l))) ≡ read (e ∷ es)
-    → (y ≡ read e) × (bodyOf m (at + entryLength e) (drop (entryLength e) l) ≡ read es)
+    → andThen y (λ f. mapped (λ fs. f ∷ fs) (bodyEntries m (at + entryLength f) (drop (entryLength f) l))) ≡ read (e ∷ es)
+    → (y ≡ read e) × (bodyEntries m (at + entryLength e) (drop (entryLength e) l) ≡ read es)
 first-of m at e es l (refused c) h = absurd (let z : _≡_ {A = ℕ} 0 1 = cc in omega arith)
-first-of m at e es l (read f) h = go (bodyOf m (at + entryLength f) (drop (entryLength f) l)) refl h
+first-of m at e es l (read f) h = go (bodyEntries m (at + entryLength f) (drop (entryLength f) l)) refl h
   where
-    go : (z : Reading (List Entry)) → bodyOf m (at + entryLength f) (drop (entryLength f) l) ≡ z → mapped (λ fs. f ∷ fs) z ≡ read (e ∷ es)
-        → (read f ≡ read e) × (bodyOf m (at + entryLength e) (drop (entryLength e) l) ≡ read es)
+    go : (z : Reading (List Entry)) → bodyEntries m (at + entryLength f) (drop (entryLength f) l) ≡ z → mapped (λ fs. f ∷ fs) z ≡ read (e ∷ es)
+        → (read f ≡ read e) × (bodyEntries m (at + entryLength e) (drop (entryLength e) l) ≡ read es)
     go (refused c) q k = absurd (let z : _≡_ {A = ℕ} 0 1 = cc in omega arith)
     go (read fs) q k =
         let a : f ≡ e = cc in

@@ -10,7 +10,7 @@ use Rattle.reader.specs.Reading.{stop}
 use Rattle.reader.specs.Recording.{Recording}
 use Rattle.reader.specs.Bytes.{orderingsBytes, entryBytes, bodyBytes, sectionsBytes, bytesOf}
 use Rattle.reader.specs.Entry.{orderingOk, accessOk, accessOf, onRecord, entryFrom, entryOf}
-use Rattle.reader.specs.Body.{bodyFrom, bodyOf}
+use Rattle.reader.specs.Body.{bodyFrom, bodyEntries}
 use Rattle.reader.specs.Section.{taken, sectionBody, onSection, sectionAt, sectionsOf}
 use Rattle.reader.specs.Parse.{ownersOf, valuesOf, allBelow, sizesOk, onHead, headAt, sectionsAfter, parse}
 use Rattle.reader.specs.Calls.{checkedOf}
@@ -32,5 +32,5 @@ pub record Bytes : Type 0 where
   pub from-zero : checkedOf (parse (bytesOf zeroth)) ≡ stop 13 25
 
 pub bytes : Bytes
-unfolding checkedOf parse headAt onHead sectionsAfter sectionsOf sectionAt onSection sectionBody taken bodyOf bodyFrom entryOf entryFrom onRecord accessOf accessOk orderingOk ownersOf valuesOf allBelow sizesOk recordOf headOf sectionOf fieldsOf start startTwo cell cells head section ordering access le2 le4 field2 field4 orderingsBytes entryBytes bodyBytes sectionsBytes bytesOf
+unfolding checkedOf parse headAt onHead sectionsAfter sectionsOf sectionAt onSection sectionBody taken bodyEntries bodyFrom entryOf entryFrom onRecord accessOf accessOk orderingOk ownersOf valuesOf allBelow sizesOk recordOf headOf sectionOf fieldsOf start startTwo cell cells head section ordering access le2 le4 field2 field4 orderingsBytes entryBytes bodyBytes sectionsBytes bytesOf
 bytes = record { none = refl; size = refl; whole = refl; cut = refl; longer = refl; from-zero = refl }

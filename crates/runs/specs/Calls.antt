@@ -9,7 +9,7 @@ use Rattle.codec.specs.Decode.{recordOf, headOf, sectionOf as sectionRecordOf, 
 use Rattle.codec.specs.Store.{store}
 use Rattle.reader.specs.Bytes.{orderingsBytes, entryBytes}
 use Rattle.reader.specs.Entry.{orderingOk, accessOk, accessOf as accessRecordOf, onRecord, entryFrom, entryOf as readEntry}
-use Rattle.reader.specs.Body.{bodyFrom, bodyOf, tally, judged, walkOf}
+use Rattle.reader.specs.Body.{bodyFrom, bodyEntries, tally, judged, walkOf}
 use Rattle.reader.specs.Section.{taken, sectionBody, onSection, sectionAt, sectionsOf}
 use Rattle.reader.specs.Parse.{ownersOf, valuesOf, allBelow, sizesOk, onHead, headAt, sectionsAfter, parse}
 use Rattle.reader.specs.Calls.{checkedOf}
@@ -71,7 +71,7 @@ pub record Calls : Type 0 where
   pub ten-bytes : row-one 10 (opened-box 2) ≡ 0
 
 pub calls : Calls
-unfolding openOf opened openNumber entriesOk allBelow openedState ownedRecords outcome called calledAll packed accessOf accessNumber checked accepted refused soundOf lastSound taskSound tasksSound objectSound sumOf isWithin allPass rowOf orderingsOf everyDone written leftOut nextOf localityAfter effectOf classOf store orderingsBytes entryBytes ordering access start startTwo le2 le4 head cell cells section sectionOf sectionChecked logChecked walkOf judged tally bodyOf bodyFrom readEntry entryFrom onRecord accessRecordOf accessOk orderingOk recordOf headOf sectionRecordOf fieldsOf field2 field4 checkedOf parse headAt onHead sectionsAfter sectionsOf sectionAt onSection sectionBody taken ownersOf valuesOf sizesOk
+unfolding openOf opened openNumber entriesOk allBelow openedState ownedRecords outcome called calledAll packed accessOf accessNumber checked accepted refused soundOf lastSound taskSound tasksSound objectSound sumOf isWithin allPass rowOf orderingsOf everyDone written leftOut nextOf localityAfter effectOf classOf store orderingsBytes entryBytes ordering access start startTwo le2 le4 head cell cells section sectionOf sectionChecked logChecked walkOf judged tally bodyEntries bodyFrom readEntry entryFrom onRecord accessRecordOf accessOk orderingOk recordOf headOf sectionRecordOf fieldsOf field2 field4 checkedOf parse headAt onHead sectionsAfter sectionsOf sectionAt onSection sectionBody taken ownersOf valuesOf sizesOk
 calls = record {
   a-body-0 = refl;
   a-body-1 = refl;
