@@ -8,3 +8,4 @@ pub mod Roundtrip
 pub mod Store
 pub mod Strict
 pub mod Within
+pub mod Zeros

@@ -6,7 +6,7 @@ use native.Mathlib.Nat.{add-zero}
 use native.Mathlib.Numerals.{add-one}
 use native.Mathlib.Omega.{arith}
 use lib.ListN.{length, set, take, drop}
-use lib.Seq.{sets, length-sets, sets-eq}
+use lib.Seq.{sets, length-sets, sets-eq, take-at}
 
 unfoldable pub store : List ℕ → ℕ → List ℕ → List ℕ
 store l at bs = sets l at bs
@@ -37,3 +37,7 @@ store-behind l at n xs ys h = rw (← h) (store-append l at xs ys)
 pub store-split : (l : List ℕ) (at : ℕ) (bs : List ℕ) → at + length bs ≤ length l → store l at bs ≡ take at l ++ bs ++ drop (at + length bs) l
 unfolding store
 store-split l at bs h = sets-eq bs l at h
+
+-- what is stored at the front of a list that has room for it
+pub store-front : (out bytes : List ℕ) (n : ℕ) → length bytes ≡ n → n ≤ length out → take n (store out 0 bytes) ≡ bytes
+store-front out bytes n e h = rw (store-split out 0 bytes (omega arith)) (take-at bytes (drop (0 + length bytes) out) n e)

@@ -6,6 +6,7 @@ use Prim.Native.Nat.{ℕ, _+_, _≤_, _<_}
 use native.Mathlib.Omega.{arith}
 use lib.ListN.{length, getD, take}
 use Rattle.codec.specs.Encode.{head, head-length}
+use Rattle.codec.specs.Store.{store-front}
 use Rattle.codec.specs.Kind.{headLength}
 use Rattle.reader.specs.Bytes.{bytesOf}
 use Rattle.reader.specs.Parse.{Parsed, parse}
@@ -20,7 +21,6 @@ use Rattle.fidelity.specs.FirstBox.{startOf, opening-facts, owners-under
 use Rattle.fidelity.specs.Follows.{Follows}
 use Rattle.fidelity.specs.Matches.{Matches}
 use Rattle.fidelity.specs.Packed.{bodies-length, bodies-at, section-accepted, bodies-in, packed-is}
-use Rattle.fidelity.specs.Turn.{store-front}
 
 abbrev pub parsedBy : Opening → List Asked → Parsed
 parsedBy o asked = record { recording = recordingBy o asked; spans = spansOf (recordingBy o asked) }

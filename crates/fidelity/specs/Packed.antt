@@ -9,6 +9,7 @@ use lib.Dec.{eqb}
 use lib.ListN.{length, getD, take, length-append}
 use Rattle.codec.specs.Decide.{passes, fails, split}
 use Rattle.codec.specs.Encode.{section-length}
+use Rattle.codec.specs.Store.{store-front}
 use Rattle.codec.specs.Kind.{sectionKind, lengthOf}
 use Rattle.reader.specs.Body.{walkOf}
 use Rattle.reader.specs.Bytes.{bodyBytes, sectionsBytes}
@@ -26,7 +27,6 @@ use Rattle.recorder.specs.SectionTurn.{section-facts}
 use Rattle.recorder.specs.WholeRun.{Box, packed}
 use Rattle.fidelity.specs.Filed.{filedOf, bodiesFrom, filed-count}
 use Rattle.fidelity.specs.Follows.{limits, Follows}
-use Rattle.fidelity.specs.Turn.{store-front}
 
 pub bodies-length : (h : History) (t k : ℕ) → length (bodiesFrom h t k) ≡ k
 unfolding bodiesFrom

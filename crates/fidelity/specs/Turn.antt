@@ -2,14 +2,13 @@
 use mathlib.Core.Bool.{Bool, true, false, cond}
 use mathlib.Core.List.{List, [], _++_, append-nil}
 use mathlib.Core.Path.{_≡_, refl, ap, fun-ext, sym}
-use Prim.Native.Nat.{ℕ, _+_, _≤_, _<_}
-use native.Mathlib.Omega.{arith}
+use Prim.Native.Nat.{ℕ, _+_, _<_}
 use borrow.Author.Tests.{eqb-true, eqb-false}
 use lib.Dec.{eqb}
-use lib.ListN.{length, getD, take, drop, length-set}
-use lib.Seq.{take-at, getD-set-same, getD-set-other}
+use lib.ListN.{length, getD, length-set}
+use lib.Seq.{getD-set-same, getD-set-other}
 use Rattle.codec.specs.Decide.{passes, fails, split}
-use Rattle.codec.specs.Store.{store, store-split}
+use Rattle.codec.specs.Store.{store-front}
 use Rattle.reader.specs.Recording.{Entry as FileEntry}
 use Rattle.reader.specs.Bytes.{entryBytes, entryLength, entry-length}
 use Rattle.history.specs.Entry.{Entry}
@@ -22,10 +21,6 @@ use Rattle.recorder.specs.Accepted.{Takes, takes-accepted, number-refused, numb
 use Rattle.recorder.specs.WholeRun.{Call, Box, outcome, called}
 use Rattle.fidelity.specs.Box.{accepts, actOf, entryOf}
 use Rattle.fidelity.specs.Filed.{filed}
-
--- what is stored at the front of a list that has room for it
-pub store-front : (out bytes : List ℕ) (n : ℕ) → length bytes ≡ n → n ≤ length out → take n (store out 0 bytes) ≡ bytes
-store-front out bytes n e h = rw (store-split out 0 bytes (omega arith)) (take-at bytes (drop (0 + length bytes) out) n e)
 
 -- what an accepted call writes, and its entry
 abbrev pub fileEntry : Box → Call → FileEntry

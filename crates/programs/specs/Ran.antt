@@ -18,7 +18,7 @@ use Rattle.tracker.specs.declared.State.{State}
 use Rattle.fidelity.specs.Box.{Opening, openedBy, Asked, callsOf, firstBox, lastBox, accepts, recordedFrom, recorded}
 use Rattle.fidelity.specs.Box.{entryOf as historyEntry}
 use Rattle.fidelity.specs.FirstBox.{follows-last}
-use Rattle.script.specs.Front.{store-front}
+use Rattle.codec.specs.Store.{store-front}
 use Rattle.programs.specs.Numbered.{Numbered}
 use Rattle.programs.specs.Wanted.{wantedIn, wantedBy}
 use Rattle.script.specs.Asked.{askedBy, askedOf, isNumber}

@@ -19,7 +19,7 @@ use Rattle.fidelity.specs.Box.{Opening, openedBy, Asked, firstBox, lastBox, rec
 use Rattle.fidelity.specs.BoxMatches.{sections-accepted}
 use Rattle.fidelity.specs.Packed.{section-wrote}
 use Rattle.fidelity.specs.Theorem.{acceptance}
-use Rattle.script.specs.Front.{store-front}
+use Rattle.codec.specs.Store.{store-front}
 use Rattle.script.specs.Lines.{Line}
 use Rattle.script.specs.Packed.{packed}
 use Rattle.script.specs.RecordOf.{longestHead, begun, finished, opening, withOpening}

@@ -3,13 +3,14 @@
 use mathlib.Core.Path.{_≡_, refl, sym, ap, _∙_}
 use mathlib.Core.Bool.{false}
 use mathlib.Core.List.{List}
-use Prim.Native.Nat.{ℕ, zero, suc, _+_, _≤_, _<_}
+use Prim.Native.Nat.{ℕ, _+_, _≤_, _<_}
 use native.Mathlib.Omega.{arith}
 use native.Mathlib.Decide.{ℕ-discrete, decLt}
 use lib.ListN.{length, getD, set, replicate, length-set}
 use lib.Seq.{getD-set-same, getD-set-other, set-getD}
 use borrow.Author.Tests.{lt-ltb, le-ltb}
 use Rattle.codec.specs.declared.Op.{Op}
+use Rattle.codec.specs.Zeros.{zeros-at}
 use Rattle.reader.specs.declared.Limits.{Limits}
 use Rattle.replayer.specs.declared.Run.{Run}
 use Rattle.replayer.specs.declared.TaskRun.{TaskRun}
@@ -45,11 +46,6 @@ pub none-more : (r : Run) (b : List ℕ) (t : ℕ) → ((s : ℕ) → s < t → 
 none-more r b t g p s h = elim (ℕ-discrete s t) [ yes e ↦ rw e p | no e ↦ g s (omega (arith, e)) ]
 
 -- at first nothing is noted
-zeros-at : (n t : ℕ) → _≡_ {A = ℕ} (getD (replicate n 0) t 0) 0
-zeros-at zero t = refl
-zeros-at (suc n) zero = refl
-zeros-at (suc n) (suc t) = zeros-at n t
-
 pub noted-none : (r : Run) (b : List ℕ) → Noted r b (replicate 16 0) (replicate 16 0)
 noted-none r b = record { scans-all = refl; ats-all = refl; notes = λ t h. absurd (omega (arith, h, zeros-at 16 t)) }
 

@@ -1,15 +1,12 @@
--- What is stored at the front of a list.
+-- What is put at the front of a list.
 use mathlib.Core.Path.{_≡_, ap, _∙_, sym}
 use mathlib.Core.List.{List, _++_, append-assoc}
 use Prim.Native.Nat.{ℕ, _+_, _≤_}
 use native.Mathlib.Omega.{arith}
 use lib.ListN.{length, take, drop, take-append-drop}
-use lib.Seq.{take-at, drop-append-le, length-take-le}
-use Rattle.codec.specs.Store.{store, store-split}
+use lib.Seq.{drop-append-le, length-take-le}
+use Rattle.codec.specs.Store.{store-split}
 use Rattle.text.specs.Appended.{Appended}
-
-pub store-front : (out bytes : List ℕ) (n : ℕ) → length bytes ≡ n → n ≤ length out → take n (store out 0 bytes) ≡ bytes
-store-front out bytes n e h = rw (store-split out 0 bytes (omega arith)) (take-at bytes (drop (0 + length bytes) out) n e)
 
 -- what is put at the front of a list's first n elements is put at the front of the list
 pub front-appended : (l part bytes : List ℕ) (n end : ℕ) → n ≤ length l → end ≤ n → Appended bytes (take n l) 0 part end → Appended bytes l 0 (part ++ drop n l) end

@@ -1,5 +1,3 @@
-pub mod Zeros
-pub mod ZerosLaws
 pub mod Number
 pub mod Found
 pub mod Front

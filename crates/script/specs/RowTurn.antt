@@ -12,7 +12,7 @@ use lib.Seq.{take-suc, take-suc-set}
 use Rattle.codec.specs.Decide.{both-pass}
 use Rattle.codec.specs.Store.{store, store-split}
 use Rattle.reader.specs.Parse.{allBelow}
-use Rattle.script.specs.Front.{store-front}
+use Rattle.codec.specs.Store.{store-front}
 use Rattle.script.specs.Number.{none}
 use Rattle.script.specs.Rows.{isRow, sizesOf}
 

@@ -1,5 +1,5 @@
 // Room for a text, or for the logs.
-ghost use Rattle.script.specs.Zeros.{Zeros};
+ghost use Rattle.text.specs.Zeros.{Zeros};
 
 // One byte more than a text may have, and than 16 logs of 65,536 bytes have.
 pub fn megabyte() -> [u8; 1048577]

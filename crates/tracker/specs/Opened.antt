@@ -9,6 +9,7 @@ use native.Mathlib.Numerals.{add-one}
 use native.Mathlib.Omega.{arith}
 use lib.ListN.{length, getD, set, replicate, length-set, length-replicate}
 use lib.Seq.{getD-set-same, getD-set-other}
+use Rattle.codec.specs.Zeros.{zeros-at}
 use Rattle.tracker.specs.State.{owned, doneOf, localityOf, nowhere, Shaped}
 use Rattle.tracker.specs.Sound.{soundOf}
 use Rattle.tracker.specs.Facts.{Sound, TaskBounds, writer-bounds, sound-test}
@@ -77,11 +78,6 @@ opened-shaped tasks objects owners = record {
 pub opened-objects : (tasks objects : ℕ) (owners : List ℕ) → openedState tasks objects owners .objects ≡ objects
 unfolding openedState
 opened-objects tasks objects owners = refl
-
-zeros-at : (n i : ℕ) → getD {A = ℕ} (replicate n 0) i 0 ≡ 0
-zeros-at zero i = refl
-zeros-at (suc n) zero = refl
-zeros-at (suc n) (suc i) = zeros-at n i
 
 -- no access is made yet
 pub opened-done : (tasks objects : ℕ) (owners : List ℕ) (task : ℕ) → doneOf (openedState tasks objects owners) task ≡ 0
