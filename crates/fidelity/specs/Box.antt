@@ -12,7 +12,7 @@ use Rattle.history.specs.History.{History}
 use Rattle.tracker.specs.Orderings.{writtenOf}
 use Rattle.recorder.specs.AccessOf.{isWrite}
 use Rattle.recorder.specs.OpenOf.{OpenOutcome, openOf}
-use Rattle.recorder.specs.WholeRun.{Call, Box, outcome, called, calledAll, packed}
+use Rattle.recorder.specs.WholeRun.{AccessCall, Call, Box, outcome, leftBy, calledAll, packed}
 use Rattle.fidelity.specs.Filed.{bodiesFrom}
 
 -- the arguments of an opening; the starting values fit their type
@@ -28,10 +28,13 @@ pub record Opening : Type 0 where
 abbrev pub openedBy : Opening → OpenOutcome
 openedBy o = openOf (o .tasks) (o .objects) (o .owners) (o .starts) (o .memory) (o .out)
 
--- a call of `access`, any numbers; its value fits its type
+-- a call, any numbers; its value fits its type
+abbrev pub Fits : Call → Type 0
+Fits (Call.access c) = c .value < 4294967296
+
 pub record Asked : Type 0 where
   pub call : Call
-  pub fits : call .value < 4294967296
+  pub fits : Fits call
 
 abbrev pub callsOf : List Asked → List Call
 callsOf asked = map (λ a. a .call) asked
@@ -43,40 +46,57 @@ firstBox o = record { state = openedBy o .answer .state; memory = openedBy o .me
 abbrev pub lastBox : Opening → List Asked → Box
 lastBox o asked = calledAll (firstBox o) (callsOf asked)
 
--- the number table accepts the call
-abbrev pub accepts : Box → Call → Bool
+-- the number table accepts the access
+abbrev pub accepts : Box → AccessCall → Bool
 accepts b c = eqb (outcome b c .answer .number) 0
 
--- the entry of an accepted call: its sort, object and the value that it answered, with the orderings of its row
+-- the entry of an accepted access: its sort, object and the value that it answered, with the orderings of its row
 abbrev pub actOf : Bool → ℕ → ℕ → Act
 actOf true object value = Act.write object value
 actOf false object value = Act.read object value
 
-abbrev pub entryOf : Box → Call → Entry
+abbrev pub entryOf : Box → AccessCall → Entry
 entryOf b c = record {
   task = c .task;
   act = actOf (isWrite (c .sort)) (c .object) (outcome b c .answer .value);
   orderings = writtenOf (b .state) (c .task) (c .object) (isWrite (c .sort));
 }
 
--- the accesses recorded are those accepted; newest first
-unfoldable pub recordedFrom : History → Box → List Call → History
-recordedFrom h b [] = h
-recordedFrom h b (c ∷ calls) = recordedFrom (cond (accepts b c) (entryOf b c ∷ h) h) (called b c) calls
-
-abbrev pub recorded : Opening → List Asked → History
-recorded o asked = recordedFrom [] (firstBox o) (callsOf asked)
-
--- what the reference memory is fed of a call: its arguments, and whether it is accepted
+-- what the reference memory is fed of an access: its arguments, and whether it is accepted
 pub record Fed : Type 0 where
   pub object : ℕ
   pub write : Bool
   pub value : ℕ
   pub accepted : Bool
 
+abbrev pub fedBy : Box → AccessCall → Fed
+fedBy b c = record { object = c .object; write = isWrite (c .sort); value = c .value; accepted = accepts b c }
+
+-- what a call adds, by its sort: the value that it answers, the entry of the access that it makes, and what the reference memory is
+-- fed. A call that makes no access adds nothing to the last two.
+pub record Adds : Type 0 where
+  pub answers : List ℕ
+  pub entries : List Entry
+  pub feeds : List Fed
+
+abbrev pub addedBy : Box → Call → Adds
+addedBy b (Call.access c) = record {
+  answers = outcome b c .answer .value ∷ [];
+  entries = cond (accepts b c) (entryOf b c ∷ []) [];
+  feeds = fedBy b c ∷ [];
+}
+
+-- the accesses recorded are those accepted; newest first
+unfoldable pub recordedFrom : History → Box → List Call → History
+recordedFrom h b [] = h
+recordedFrom h b (c ∷ calls) = recordedFrom (addedBy b c .entries ++ h) (leftBy b c) calls
+
+abbrev pub recorded : Opening → List Asked → History
+recorded o asked = recordedFrom [] (firstBox o) (callsOf asked)
+
 unfoldable pub fedFrom : Box → List Call → List Fed
 fedFrom b [] = []
-fedFrom b (c ∷ calls) = record { object = c .object; write = isWrite (c .sort); value = c .value; accepted = accepts b c } ∷ fedFrom (called b c) calls
+fedFrom b (c ∷ calls) = addedBy b c .feeds ++ fedFrom (leftBy b c) calls
 
 abbrev pub fed : Opening → List Asked → List Fed
 fed o asked = fedFrom (firstBox o) (callsOf asked)
@@ -100,7 +120,7 @@ referenceValues memory (f ∷ fs) = given memory f ∷ referenceValues (kept mem
 -- the values that the calls answer
 unfoldable pub answersFrom : Box → List Call → List ℕ
 answersFrom b [] = []
-answersFrom b (c ∷ calls) = outcome b c .answer .value ∷ answersFrom (called b c) calls
+answersFrom b (c ∷ calls) = addedBy b c .answers ++ answersFrom (leftBy b c) calls
 
 -- the recording: the head that opening wrote, then for each task what the section writer wrote from the last state and the task's log
 abbrev pub recordingOf : Opening → List Asked → (ℕ → List ℕ) → List ℕ

@@ -5,8 +5,8 @@ use mathlib.Core.Path.{_≡_, refl, ap, ap₂, _∙_}
 use Prim.Native.Nat.{ℕ}
 use lib.ListN.{getD, set}
 use Rattle.recorder.specs.AccessOf.{isWrite, valueAfter, memoryAfter}
-use Rattle.recorder.specs.WholeRun.{Call, Box, outcome, called, calledAll}
-use Rattle.fidelity.specs.Box.{Opening, openedBy, Asked, callsOf, firstBox, lastBox, accepts, Fed, fedFrom, fed, given, kept, referenceMemory, referenceValues, answersFrom}
+use Rattle.recorder.specs.WholeRun.{AccessCall, Call, Box, outcome, called, calledAll}
+use Rattle.fidelity.specs.Box.{Opening, openedBy, Asked, callsOf, firstBox, lastBox, fedBy, fedFrom, fed, given, kept, referenceMemory, referenceValues, answersFrom}
 use Rattle.fidelity.specs.FirstBox.{opening-is}
 use Rattle.fidelity.specs.Turn.{takenTurn, turnedAway, turn}
 
@@ -18,18 +18,15 @@ memory-same : (write : Bool) (object value : ℕ) (memory : List ℕ) → memory
 memory-same true object value memory = refl
 memory-same false object value memory = refl
 
--- one call
-module _ (b : Box) (c : Call) where
-  abbrev fedOne : Fed
-  fedOne = record { object = c .object; write = isWrite (c .sort); value = c .value; accepted = accepts b c }
-
-  answer-given : outcome b c .answer .value ≡ given (b .memory) fedOne
+-- one access
+module _ (b : Box) (c : AccessCall) where
+  answer-given : outcome b c .answer .value ≡ given (b .memory) (fedBy b c)
   answer-given = elim (turn b c) [
     | takenTurn k a x e s ↦ rw (a, x) (value-same (isWrite (c .sort)) (c .object) (c .value) (b .memory))
     | turnedAway a x s ↦ rw (a, x)
   ]
 
-  memory-kept : called b c .memory ≡ kept (b .memory) fedOne
+  memory-kept : called b c .memory ≡ kept (b .memory) (fedBy b c)
   memory-kept = elim (turn b c) [
     | takenTurn k a x e s ↦ rw (a, s) (memory-same (isWrite (c .sort)) (c .object) (c .value) (b .memory))
     | turnedAway a x s ↦ rw (a, s)
@@ -39,15 +36,15 @@ module _ (b : Box) (c : Call) where
 calls-answer : (b : Box) (memory : List ℕ) (calls : List Call) → b .memory ≡ memory → answersFrom b calls ≡ referenceValues memory (fedFrom b calls)
 unfolding answersFrom referenceValues fedFrom
 calls-answer b memory [] e = refl
-calls-answer b memory (c ∷ calls) e = ap₂ (λ (x : ℕ) (l : List ℕ). x ∷ l)
-    (answer-given b c ∙ ap (λ (m : List ℕ). given m (fedOne b c)) e)
-    (calls-answer (called b c) (kept memory (fedOne b c)) calls (memory-kept b c ∙ ap (λ (m : List ℕ). kept m (fedOne b c)) e))
+calls-answer b memory (Call.access c ∷ calls) e = ap₂ (λ (x : ℕ) (l : List ℕ). x ∷ l)
+    (answer-given b c ∙ ap (λ (m : List ℕ). given m (fedBy b c)) e)
+    (calls-answer (called b c) (kept memory (fedBy b c)) calls (memory-kept b c ∙ ap (λ (m : List ℕ). kept m (fedBy b c)) e))
 
 calls-leave : (b : Box) (memory : List ℕ) (calls : List Call) → b .memory ≡ memory → calledAll b calls .memory ≡ referenceMemory memory (fedFrom b calls)
 unfolding calledAll referenceMemory fedFrom
 calls-leave b memory [] e = e
-calls-leave b memory (c ∷ calls) e =
-    calls-leave (called b c) (kept memory (fedOne b c)) calls (memory-kept b c ∙ ap (λ (m : List ℕ). kept m (fedOne b c)) e)
+calls-leave b memory (Call.access c ∷ calls) e =
+    calls-leave (called b c) (kept memory (fedBy b c)) calls (memory-kept b c ∙ ap (λ (m : List ℕ). kept m (fedBy b c)) e)
 
 module _ (o : Opening) (accepted : openedBy o .answer .number ≡ 0) (asked : List Asked) where
   starts-first : firstBox o .memory ≡ o .starts

@@ -20,8 +20,8 @@ use Rattle.tracker.specs.After.{next-tasks, next-objects}
 use Rattle.tracker.specs.Tracks.{Tracks, tracks-more}
 use Rattle.recorder.specs.AccessOf.{isWrite}
 use Rattle.recorder.specs.Accepted.{Takes, entry-in, entry-bound}
-use Rattle.recorder.specs.WholeRun.{Call, Box, called, calledAll}
-use Rattle.fidelity.specs.Box.{Asked, callsOf, accepts, entryOf, recordedFrom}
+use Rattle.recorder.specs.WholeRun.{AccessCall, Call, Box, called, leftBy, calledAll}
+use Rattle.fidelity.specs.Box.{Fits, Asked, callsOf, accepts, entryOf, addedBy, recordedFrom}
 use Rattle.fidelity.specs.Filed.{filedOf}
 use Rattle.fidelity.specs.Matches.{Recordable}
 use Rattle.fidelity.specs.Turn.{fileEntry, historyEntry, boxAfter, takenTurn, turnedAway, turn, entry-filed, memory-after, memory-length}
@@ -50,7 +50,7 @@ pub record Follows (start : ℕ → ℕ) (tasks objects : ℕ) (b : Box) (h : Hi
   pub entries : (t : ℕ) → EntriesIn (limits tasks objects t) (filedOf t h)
   pub recordable : {e : Entry} {g : History} → At e g h → Recordable (e .act)
 
-module _ {start : ℕ → ℕ} {tasks objects : ℕ} {b : Box} {h : History} (f : Follows start tasks objects b h) (c : Call) where
+module _ {start : ℕ → ℕ} {tasks objects : ℕ} {b : Box} {h : History} (f : Follows start tasks objects b h) (c : AccessCall) where
   module _ (k : Takes (b .state) (c .task) (c .object) (c .sort) (c .value) (b .memory) (c .out)) where
     tracks-next : Tracks start (boxAfter b c .state) (λ o. getD (boxAfter b c .memory) o 0) (historyEntry b c ∷ h)
     tracks-next =
@@ -109,14 +109,19 @@ module _ {start : ℕ → ℕ} {tasks objects : ℕ} {b : Box} {h : History} (f 
       recordable = λ a. recordable-next a;
     }
 
-  follows-call : c .value < 4294967296 → Follows start tasks objects (called b c) (cond (accepts b c) (entryOf b c ∷ h) h)
+  follows-call : c .value < 4294967296 → Follows start tasks objects (called b c) (cond (accepts b c) (entryOf b c ∷ []) [] ++ h)
   follows-call v = elim (turn b c) [
     | takenTurn k a x e s ↦ rw (a, e, s) (follows-next k v)
     | turnedAway a x s ↦ rw (a, s) f
   ]
 
+-- a call of any sort
+follows-left : {start : ℕ → ℕ} {tasks objects : ℕ} {b : Box} {h : History} → Follows start tasks objects b h → (c : Call) → Fits c
+    → Follows start tasks objects (leftBy b c) (addedBy b c .entries ++ h)
+follows-left f (Call.access c) v = follows-call f c v
+
 pub follows-all : {start : ℕ → ℕ} {tasks objects : ℕ} (b : Box) (h : History) (asked : List Asked) → Follows start tasks objects b h
     → Follows start tasks objects (calledAll b (callsOf asked)) (recordedFrom h b (callsOf asked))
 unfolding calledAll recordedFrom
 follows-all b h [] f = f
-follows-all b h (a ∷ asked) f = follows-all (called b (a .call)) _ asked (follows-call f (a .call) (a .fits))
+follows-all b h (a ∷ asked) f = follows-all (leftBy b (a .call)) _ asked (follows-left f (a .call) (a .fits))

@@ -1,4 +1,4 @@
--- One call on the box, by its number: an accepted one leaves what the table says, and a refused one leaves all as it was.
+-- One access on the box, by its number: an accepted one leaves what the table says, and a refused one leaves all as it was.
 use mathlib.Core.Bool.{Bool, true, false, cond}
 use mathlib.Core.List.{List, [], _++_, append-nil}
 use mathlib.Core.Path.{_≡_, refl, ap, fun-ext, sym}
@@ -18,26 +18,26 @@ use Rattle.tracker.specs.Next.{nextOf}
 use Rattle.tracker.specs.Orderings.{writtenOf}
 use Rattle.recorder.specs.AccessOf.{isWrite, accepted, refused, valueAfter, memoryAfter, entryOf as writtenEntry}
 use Rattle.recorder.specs.Accepted.{Takes, takes-accepted, number-refused, number-takes}
-use Rattle.recorder.specs.WholeRun.{Call, Box, outcome, called}
+use Rattle.recorder.specs.WholeRun.{AccessCall, Box, outcome, called}
 use Rattle.fidelity.specs.Box.{accepts, actOf, entryOf}
 use Rattle.fidelity.specs.Filed.{filed}
 
 -- what an accepted call writes, and its entry
-abbrev pub fileEntry : Box → Call → FileEntry
+abbrev pub fileEntry : Box → AccessCall → FileEntry
 fileEntry b c = writtenEntry (b .state) (c .task) (c .object) (isWrite (c .sort)) (c .value)
 
-abbrev pub historyEntry : Box → Call → Entry
+abbrev pub historyEntry : Box → AccessCall → Entry
 historyEntry b c = trackedEntry (b .state) (c .task) (c .object) (isWrite (c .sort)) (c .value) (getD (b .memory) (c .object) 0)
 
 -- the box after an accepted call
-abbrev pub boxAfter : Box → Call → Box
+abbrev pub boxAfter : Box → AccessCall → Box
 boxAfter b c = record {
   state = nextOf (b .state) (c .task) (c .object) (isWrite (c .sort));
   memory = memoryAfter (isWrite (c .sort)) (c .object) (c .value) (b .memory);
   logs = λ t. cond (eqb (c .task) t) (b .logs t ++ entryBytes (fileEntry b c)) (b .logs t);
 }
 
-pub data Turn (b : Box) (c : Call) : Type 0 where
+pub data Turn (b : Box) (c : AccessCall) : Type 0 where
   takenTurn : Takes (b .state) (c .task) (c .object) (c .sort) (c .value) (b .memory) (c .out) → accepts b c ≡ true
       → outcome b c .answer .value ≡ valueAfter (isWrite (c .sort)) (c .object) (c .value) (b .memory)
       → entryOf b c ≡ historyEntry b c → called b c ≡ boxAfter b c → Turn b c
@@ -49,7 +49,7 @@ act-same : (s : State) (task object : ℕ) (write : Bool) (value : ℕ) (memory 
 act-same s task object true value memory = refl
 act-same s task object false value memory = refl
 
-module _ (b : Box) (c : Call) where
+module _ (b : Box) (c : AccessCall) where
   took : Takes (b .state) (c .task) (c .object) (c .sort) (c .value) (b .memory) (c .out) → accepts b c ≡ true
       → outcome b c ≡ accepted (b .state) (c .task) (c .object) (isWrite (c .sort)) (c .value) (b .memory) (c .out) → Turn b c
   unfolding called accepted

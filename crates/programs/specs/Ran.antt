@@ -12,11 +12,10 @@ use Rattle.codec.specs.Decide.{passes, fails, split, both-pass}
 use Rattle.history.specs.History.{History}
 use Rattle.recorder.specs.AccessOf.{isWrite, entryOf, accessNumber, accepted, refused, accessOf}
 use Rattle.recorder.specs.Accepted.{number-takes}
-use Rattle.recorder.specs.WholeRun.{Box, outcome, called, calledAll}
+use Rattle.recorder.specs.WholeRun.{Call, AccessCall, Box, outcome, called, leftBy, calledAll}
 use Rattle.reader.specs.Bytes.{entry-length}
 use Rattle.tracker.specs.declared.State.{State}
-use Rattle.fidelity.specs.Box.{Opening, openedBy, Asked, callsOf, firstBox, lastBox, accepts, recordedFrom, recorded}
-use Rattle.fidelity.specs.Box.{entryOf as historyEntry}
+use Rattle.fidelity.specs.Box.{Opening, openedBy, Asked, callsOf, firstBox, lastBox, accepts, addedBy, recordedFrom, recorded}
 use Rattle.fidelity.specs.FirstBox.{follows-last}
 use Rattle.codec.specs.Store.{store-front}
 use Rattle.programs.specs.Numbered.{Numbered}
@@ -52,17 +51,17 @@ module _ (logs : ℕ → List ℕ) (bytes : List ℕ) (task : ℕ) where
   ]
 
 -- one call more
-last-more : (b : Box) (asked : List Asked) (x : Asked) → calledAll b (callsOf (asked ++ (x ∷ []))) ≡ called (calledAll b (callsOf asked)) (x .call)
+last-more : (b : Box) (asked : List Asked) (x : Asked) → calledAll b (callsOf (asked ++ (x ∷ []))) ≡ leftBy (calledAll b (callsOf asked)) (x .call)
 unfolding calledAll
 last-more b [] x = refl
-last-more b (a ∷ asked) x = last-more (called b (a .call)) asked x
+last-more b (a ∷ asked) x = last-more (leftBy b (a .call)) asked x
 
--- one access more is recorded, if the call is accepted
-count-more : (h : History) (b : Box) (asked : List Asked) (x : Asked) → accepts (calledAll b (callsOf asked)) (x .call) ≡ true
-    → length (recordedFrom h b (callsOf (asked ++ (x ∷ [])))) ≡ length (recordedFrom h b (callsOf asked)) + 1
+-- one access more is recorded, if it is accepted
+count-more : (h : History) (b : Box) (asked : List Asked) (c : AccessCall) (v : c .value < 4294967296) → accepts (calledAll b (callsOf asked)) c ≡ true
+    → length (recordedFrom h b (callsOf (asked ++ (record { call = Call.access c; fits = v } ∷ [])))) ≡ length (recordedFrom h b (callsOf asked)) + 1
 unfolding calledAll recordedFrom
-count-more h b [] x p = rw p (sym (add-one (length h)))
-count-more h b (a ∷ asked) x p = count-more (cond (accepts b (a .call)) (historyEntry b (a .call) ∷ h) h) (called b (a .call)) asked x p
+count-more h b [] c v p = rw p (sym (add-one (length h)))
+count-more h b (a ∷ asked) c v p = count-more (addedBy b (a .call) .entries ++ h) (leftBy b (a .call)) asked c v p
 
 -- an access writes as many bytes as it says
 written-length : (s : State) (task object sort value : ℕ) (memory out : List ℕ)
@@ -123,7 +122,8 @@ module _ (o : Opening) (z : openedBy o .answer .number ≡ 0) (base : ℕ) where
       let a = askedOf (fieldsOf (l .bytes)) in
       let b = s .box in
       let c = callOf (s .total) a in
-      let x : Asked = record { call = c; fits = asked-fits (fieldsOf (l .bytes)) g } in
+      let v = asked-fits (fieldsOf (l .bytes)) g in
+      let x : Asked = record { call = Call.access c; fits = v } in
       let same = access-same (b .state) (a .task) (a .object) (a .sort) (a .value) (b .memory) (replicate (most - s .total) 0) (most - s .total) (length-replicate {A = ℕ} (most - s .total) 0) in
       elim (split (eqb (outcome b c .answer .number) 0)) [
         | fails p ↦ rw p (ran-stop ls s l (l .number) (outcome b c .answer .number) h r)
@@ -132,7 +132,7 @@ module _ (o : Opening) (z : openedBy o .answer .number ≡ 0) (base : ℕ) where
             let e : b .state .tasks ≡ o .tasks = ap (λ (y : Box). y .state .tasks) (r .box) ∙ follows-last o z (r .asked) .tasks-are in
             let w = written-length (b .state) (a .task) (a .object) (a .sort) (a .value) (b .memory) (replicate (most - s .total) 0) in
             let m = sum-more (b .logs) (take (outcome b c .answer .written) (outcome b c .out)) (a .task) (o .tasks) (omega (arith, t .facts .accepts .task-low, e)) in
-            let k = count-more [] (firstBox o) (r .asked) x (ap (λ (y : Box). accepts y c) (sym (r .box)) ∙ p) in
+            let k = count-more [] (firstBox o) (r .asked) c v (ap (λ (y : Box). accepts y c) (sym (r .box)) ∙ p) in
             rw p (record {
               asked = r .asked ++ (x ∷ []);
               box = ap (λ (y : Box). called y c) (r .box) ∙ sym (last-more (firstBox o) (r .asked) x);

@@ -3,6 +3,7 @@ use Prim.Native.Nat.{ℕ}
 use Rattle.script.specs.Asked.{askedOf}
 use Rattle.script.specs.Fields.{fieldsOf}
 use Rattle.script.specs.Lines.{Line}
+use Rattle.recorder.specs.WholeRun.{Call}
 use Rattle.fidelity.specs.Box.{Asked}
 
 pub record Wanted : Type 0 where
@@ -19,5 +20,8 @@ wantedIn l = record {
   value = askedOf (fieldsOf (l .bytes)) .value;
 }
 
+abbrev pub wantedOf : Call → Wanted
+wantedOf (Call.access c) = record { task = c .task; object = c .object; sort = c .sort; value = c .value }
+
 abbrev pub wantedBy : Asked → Wanted
-wantedBy x = record { task = x .call .task; object = x .call .object; sort = x .call .sort; value = x .call .value }
+wantedBy x = wantedOf (x .call)

@@ -17,10 +17,10 @@ use Rattle.tracker.specs.State.{Shaped, doneOf}
 use Rattle.recorder.specs.AccessOf.{checked, accessNumber, accepted, refused, accessOf}
 use Rattle.recorder.specs.Accepted.{Takes, takes-accepted, entry-bound}
 use Rattle.recorder.specs.OpenOf.{entriesOk, openNumber, OpenOutcome, opened, openOf}
-use Rattle.recorder.specs.WholeRun.{Call, Box, outcome, called, calledAll}
+use Rattle.recorder.specs.WholeRun.{AccessCall, Call, Box, outcome, called, calledAll}
 
 -- task 0 reads object 0
-abbrev again : Call
+abbrev again : AccessCall
 again = record { task = 0; object = 0; sort = 0; value = 0; out = replicate 138 0 }
 
 -- one task and one object, n accesses made
@@ -56,7 +56,7 @@ stands-more b n w h =
       done = next-done (b .state) 0 0 _ (w .shaped) (omega arith) ∙ ap (λ (k : ℕ). k + 1) (w .done);
     })
 
-stands-all : (k n : ℕ) (b : Box) → Stands b n → n + k ≤ 65535 → Stands (calledAll b (replicate k again)) (n + k)
+stands-all : (k n : ℕ) (b : Box) → Stands b n → n + k ≤ 65535 → Stands (calledAll b (replicate k (Call.access again))) (n + k)
 unfolding calledAll
 stands-all zero n b w h = let e : n + 0 ≡ n = omega arith in rw e w
 stands-all (suc k) n b w h =
@@ -95,8 +95,8 @@ first-stands = rw first-is (record {
 
 pub record Full : Type 0 where
   pub opening-taken : opening .answer .number ≡ 0
-  pub last-taken : outcome (calledAll first (replicate 65534 again)) again .answer .number ≡ 0
-  pub next-eight : outcome (calledAll first (replicate 65535 again)) again .answer .number ≡ 8
+  pub last-taken : outcome (calledAll first (replicate 65534 (Call.access again))) again .answer .number ≡ 0
+  pub next-eight : outcome (calledAll first (replicate 65535 (Call.access again))) again .answer .number ≡ 8
 
 taken-at : (b : Box) (n : ℕ) → Stands b n → n < 65535 → outcome b again .answer .number ≡ 0
 unfolding outcome accepted
@@ -114,6 +114,6 @@ eight-at b w = rw (
 pub full-run : Full
 full-run = record {
   opening-taken = taken;
-  last-taken = taken-at (calledAll first (replicate 65534 again)) 65534 (stands-all 65534 0 first first-stands (omega arith)) (omega arith);
-  next-eight = eight-at (calledAll first (replicate 65535 again)) (stands-all 65535 0 first first-stands (omega arith));
+  last-taken = taken-at (calledAll first (replicate 65534 (Call.access again))) 65534 (stands-all 65534 0 first first-stands (omega arith)) (omega arith);
+  next-eight = eight-at (calledAll first (replicate 65535 (Call.access again))) (stands-all 65535 0 first first-stands (omega arith));
 }

@@ -35,10 +35,10 @@ abbrev opened-box : ℕ → Box
 opened-box tasks = record { state = opening tasks .answer .state; memory = opening tasks .memory; logs = λ t. [] }
 
 abbrev reads : ℕ → ℕ → Call
-reads task object = record { task = task; object = object; sort = 0; value = 0; out = replicate 40 0 }
+reads task object = Call.access (record { task = task; object = object; sort = 0; value = 0; out = replicate 40 0 })
 
 abbrev writes : ℕ → ℕ → ℕ → Call
-writes task object value = record { task = task; object = object; sort = 1; value = value; out = replicate 40 0 }
+writes task object value = Call.access (record { task = task; object = object; sort = 1; value = value; out = replicate 40 0 })
 
 -- run A: T = 2; task 0 writes 7, task 1 reads it, task 0 reads it, task 1 writes 9
 abbrev run-a : List Call

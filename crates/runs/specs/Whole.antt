@@ -17,7 +17,7 @@ use Rattle.reader.specs.Section.{sectionsOf, sectionAt, onSection, sectionBody,
 use Rattle.recorder.specs.AccessOf.{accessOf, accessNumber, checked, accepted, refused}
 use Rattle.recorder.specs.OpenOf.{openOf, opened, openNumber, entriesOk}
 use Rattle.recorder.specs.SectionOf.{sectionOf, sectionChecked, logChecked}
-use Rattle.recorder.specs.WholeRun.{outcome, called, calledAll, packed}
+use Rattle.recorder.specs.WholeRun.{Call, outcome, called, calledAll, packed}
 use Rattle.replayer.specs.All.{allFrom}
 use Rattle.replayer.specs.Met.{allMet}
 use Rattle.replayer.specs.Next.{entryNext, judged as judged-replayer-next, nextOf as nextOf-replayer-next}
@@ -42,16 +42,16 @@ abbrev opening : Opening
 opening = record { tasks = 2; objects = 2; owners = 0 ∷ 0 ∷ []; starts = 0 ∷ 0 ∷ []; memory = 1 ∷ 1 ∷ []; out = replicate 20 0; fits = (lib.Dec.lit< tt, (lib.Dec.lit< tt, tt)) }
 
 abbrev reads : ℕ → Asked
-reads task = record { call = record { task = task; object = 0; sort = 0; value = 0; out = replicate 40 0 }; fits = lib.Dec.lit< tt }
+reads task = record { call = Call.access (record { task = task; object = 0; sort = 0; value = 0; out = replicate 40 0 }); fits = lib.Dec.lit< tt }
 
 -- task 0 writes 7, task 1 reads it, task 0 reads it, task 1 writes 9; a call that is refused stands between
 abbrev calls : List Asked
 calls =
-    record { call = record { task = 0; object = 0; sort = 1; value = 7; out = replicate 40 0 }; fits = lib.Dec.lit< tt }
+    record { call = Call.access (record { task = 0; object = 0; sort = 1; value = 7; out = replicate 40 0 }); fits = lib.Dec.lit< tt }
     ∷ reads 1
     ∷ reads 5
     ∷ reads 0
-    ∷ record { call = record { task = 1; object = 0; sort = 1; value = 9; out = replicate 40 0 }; fits = lib.Dec.lit< tt }
+    ∷ record { call = Call.access (record { task = 1; object = 0; sort = 1; value = 9; out = replicate 40 0 }); fits = lib.Dec.lit< tt }
     ∷ []
 
 abbrev bytes : List ℕ
