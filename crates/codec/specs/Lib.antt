@@ -2,6 +2,7 @@ pub mod Decide
 pub mod Decode
 pub mod Encode
 pub mod Field
+pub mod Head
 pub mod Kind
 pub mod Number
 pub mod Roundtrip

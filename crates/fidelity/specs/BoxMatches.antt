@@ -7,7 +7,7 @@ use native.Mathlib.Omega.{arith}
 use lib.ListN.{length, getD, take}
 use Rattle.codec.specs.Encode.{head, head-length}
 use Rattle.codec.specs.Store.{store-front}
-use Rattle.codec.specs.Kind.{headLength}
+use Rattle.codec.specs.Head.{headLength}
 use Rattle.reader.specs.Bytes.{bytesOf}
 use Rattle.reader.specs.Parse.{Parsed, parse}
 use Rattle.reader.specs.Range.{HeadIn, InRange}

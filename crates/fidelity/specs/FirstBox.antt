@@ -8,7 +8,7 @@ use lib.Dec.{eqb}
 use lib.ListN.{length, getD}
 use Rattle.codec.specs.Decide.{passes, fails, split}
 use Rattle.codec.specs.Encode.{head}
-use Rattle.codec.specs.Kind.{headLength}
+use Rattle.codec.specs.Head.{headLength}
 use Rattle.codec.specs.Store.{store}
 use Rattle.reader.specs.Bytes.{bodyBytes}
 use Rattle.reader.specs.Range.{AllUnder}

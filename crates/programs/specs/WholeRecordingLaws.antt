@@ -9,7 +9,7 @@ use lib.Dec.{eqb}
 use lib.ListN.{length, take, replicate, length-append, length-replicate}
 use Rattle.codec.specs.Decide.{passes, fails, split}
 use Rattle.codec.specs.Encode.{head, head-length, section-length}
-use Rattle.codec.specs.Kind.{headLength}
+use Rattle.codec.specs.Head.{headLength}
 use Rattle.reader.specs.Range.{AllUnder}
 use Rattle.recorder.specs.OpenOf.{openNumber, opened, openOf}
 use Rattle.recorder.specs.OpenTurn.{open-facts}

@@ -7,12 +7,13 @@ use Prim.Native.Nat.{ℕ, zero, suc, _+_, _-_, _≤_, _<_}
 use native.Mathlib.Omega.{arith}
 use lib.ListN.{length, getD, drop, List·getD-append}
 use lib.Seq.{sets-eq, getD-drop, drop-drop}
+use Rattle.codec.specs.Kind.{headKind, lengthOf}
 use Rattle.codec.specs.declared.Record.{Record}
 use Rattle.codec.specs.declared.Record.the-variants.{Head, Section, Ordering, Access, Refused}
 use Rattle.codec.specs.Decide.{passes, fails, split}
 use Rattle.codec.specs.Decode.{recordOf}
 use Rattle.codec.specs.Field.{field2, field4}
-use Rattle.codec.specs.Kind.{headLength}
+use Rattle.codec.specs.Head.{headLength, headStep, valueBehind}
 use Rattle.codec.specs.Number.{short, range}
 use Rattle.reader.specs.declared.Checked.{Checked}
 use Rattle.reader.specs.declared.survey.Layout.{Layout}
@@ -58,7 +59,7 @@ field4-drop : (n i : ℕ) (b : List ℕ) → field4 (drop n b) i ≡ field4 b (n
 unfolding field4
 field4-drop n i b = let e : n + (i + 2) ≡ n + i + 2 = omega arith in rw (field2-drop n i b, field2-drop n (i + 2) b, e)
 
-pub values-next : (n i place : ℕ) (b : List ℕ) → i < n → valuesOf (n - i) (drop place b) ≡ field4 b (place + 1) ∷ valuesOf (n - (i + 1)) (drop (place + 5) b)
+pub values-next : (n i place : ℕ) (b : List ℕ) → i < n → valuesOf (n - i) (drop place b) ≡ field4 b (place + valueBehind) ∷ valuesOf (n - (i + 1)) (drop (place + headStep) b)
 unfolding valuesOf
 values-next n i place b h = let e : n - i ≡ suc (n - (i + 1)) = omega arith in rw (e, field4-drop, drop-drop)
 
@@ -69,20 +70,20 @@ values-end n i b h = let e : n - i ≡ 0 = omega arith in rw e
 pub values-count : (n : ℕ) (b : List ℕ) → length (valuesOf n b) ≡ n
 unfolding valuesOf
 values-count zero b = refl
-values-count (suc n) b = ap suc (values-count n (drop 5 b))
+values-count (suc n) b = ap suc (values-count n (drop headStep b))
 
 -- the values of bytes that are read are those of the head, which is all there
 pub record Valued (b : List ℕ) (p : Parsed) : Type 0 where
-  pub values : p .recording .values ≡ valuesOf (length (p .recording .owners)) (drop 8 b)
+  pub values : p .recording .values ≡ valuesOf (length (p .recording .owners)) (drop (lengthOf headKind) b)
   pub within : headLength (length (p .recording .owners)) ≤ length b
 
-on-head-values : (b : List ℕ) (r : Record) (h : HeadFields) → onHead b r ≡ read h → h .values ≡ valuesOf (length (h .owners)) (drop 8 b)
+on-head-values : (b : List ℕ) (r : Record) (h : HeadFields) → onHead b r ≡ read h → h .values ≡ valuesOf (length (h .owners)) (drop (lengthOf headKind) b)
 unfolding onHead
-on-head-values b (Head t n) h p = elim (split (sizesOk t n && allBelow t (ownersOf n (drop 8 b)))) [
+on-head-values b (Head t n) h p = elim (split (sizesOk t n && allBelow t (ownersOf n (drop (lengthOf headKind) b)))) [
   | passes q ↦
-      let g : read (record { tasks = t; owners = ownersOf n (drop 8 b); values = valuesOf n (drop 8 b) }) ≡ read h = rw q at p in
-      let y : record { tasks = t; owners = ownersOf n (drop 8 b); values = valuesOf n (drop 8 b) } ≡ h = cc in
-      rw (← y, owners-count n (drop 8 b))
+      let g : read (record { tasks = t; owners = ownersOf n (drop (lengthOf headKind) b); values = valuesOf n (drop (lengthOf headKind) b) }) ≡ read h = rw q at p in
+      let y : record { tasks = t; owners = ownersOf n (drop (lengthOf headKind) b); values = valuesOf n (drop (lengthOf headKind) b) } ≡ h = cc in
+      rw (← y, owners-count n (drop (lengthOf headKind) b))
   | fails q ↦ absurd (let g : refused (stop range 0) ≡ read h = rw q at p in let z : _≡_ {A = ℕ} 0 1 = cc in omega arith)
 ]
 on-head-values b (Section t n s) h p = absurd (let z : _≡_ {A = ℕ} 0 1 = cc in omega arith)
@@ -90,7 +91,7 @@ on-head-values b (Ordering q) h p = absurd (let z : _≡_ {A = ℕ} 0 1 = cc in 
 on-head-values b (Access o) h p = absurd (let z : _≡_ {A = ℕ} 0 1 = cc in omega arith)
 on-head-values b (Refused n) h p = absurd (let z : _≡_ {A = ℕ} 0 1 = cc in omega arith)
 
-valued : (b : List ℕ) (h : HeadFields) (p : Parsed) → Headed b h → h .values ≡ valuesOf (length (h .owners)) (drop 8 b) → (r : Reading (List TaskBody))
+valued : (b : List ℕ) (h : HeadFields) (p : Parsed) → Headed b h → h .values ≡ valuesOf (length (h .owners)) (drop (lengthOf headKind) b) → (r : Reading (List TaskBody))
     → mapped (parsedOf h) r ≡ read p → Valued b p
 valued b h p w v (refused c) e = absurd (let z : _≡_ {A = ℕ} 0 1 = cc in omega arith)
 valued b h p w v (read l) e = let y : parsedOf h l ≡ p = cc in rw (← y) (record { values = v; within = w .within })

@@ -12,7 +12,8 @@ use Rattle.codec.specs.declared.Op.{Op}
 use Rattle.codec.specs.declared.Op.the-variants.{Read, Write}
 use Rattle.codec.specs.Encode.{startTwo, cell, cells, head, section, ordering, access, opLength, startTwo-length, ordering-length, access-length, section-length, cells-length, head-length}
 use Rattle.codec.specs.Field.{le2, le4, field2, field4, field4-le4}
-use Rattle.codec.specs.Kind.{headKind, headLength}
+use Rattle.codec.specs.Kind.{headKind}
+use Rattle.codec.specs.Head.{headLength}
 use Rattle.codec.specs.Number.{short, inBody}
 use Rattle.codec.specs.Roundtrip.{FitsOp, read-ordering, read-access, read-section, read-head}
 use Rattle.reader.specs.declared.Checked.{Checked}

@@ -6,8 +6,7 @@ ghost use Rattle.reader.specs.Parse.{allBelow};
 ghost use Rattle.tracker.specs.Opened.{ownedRecords};
 ghost use Rattle.tracker.specs.Range.{isWithin};
 ghost use Rattle.recorder.specs.OpenOf.{entriesOk, openNumber};
-use codec::kind::HEAD;
-use codec::kind::length_of;
+use codec::head::head_length;
 use codec::number::ENTRIES;
 use codec::number::OBJECTS;
 use codec::number::OWNER;
@@ -74,7 +73,7 @@ pub(crate) fn open_number(
     if !owners_below(owners, tasks) {
         return OWNER;
     }
-    if out < (length_of(HEAD) as usize) + 5 * objects {
+    if out < head_length(objects) {
         return ROOM;
     }
     0

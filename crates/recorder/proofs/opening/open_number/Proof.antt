@@ -4,7 +4,7 @@ use native.Mathlib.Omega.{arith}
 use lib.ListN.{length}
 use denote.Ref.{now}
 use borrow.Author.Tests.{not-true, not-false, lt-ltb, le-ltb}
-use Rattle.codec.specs.Kind.{headLength}
+use Rattle.codec.specs.Head.{headLength}
 use Rattle.reader.specs.Parse.{allBelow}
 use Rattle.tracker.specs.Range.{isWithin, within-facts}
 use Rattle.recorder.specs.OpenOf.{entriesOk, openNumber}
@@ -53,17 +53,8 @@ returns-4 : tie.Need-returns-4
 unfolding openNumber
 returns-4 c = let d = c .before .before in rw (tasks-fit (d .before .before .before .before), objects-fit (d .before .before), entries-fit d, sym (c .before .owners-below .ensures) ∙ not-true _ (c .if4 .taken))
 
-length-of-requires : tie.Need-length-of-requires
-length-of-requires c κs = search needs
-
-cast-if5 : tie.Need-cast-if5
-cast-if5 c = search needs
-
-mul-if5 : tie.Need-mul-if5
-mul-if5 c = omega (arith, within-facts 1 256 _ (objects-fit (c .before .before .before .before .before)) .1)
-
-add-if5 : tie.Need-add-if5
-add-if5 c = omega (arith, within-facts 1 256 _ (objects-fit (c .before .before .before .before .before)) .1)
+head-length-requires : tie.Need-head-length-requires
+head-length-requires c κs = omega (arith, within-facts 1 256 _ (objects-fit (c .before .before .before .before)) .1)
 
 returns-5 : tie.Need-returns-5
 unfolding openNumber
@@ -87,9 +78,6 @@ open-number-spec =
     returns-3
     owners-below-requires
     returns-4
-    length-of-requires
-    cast-if5
-    mul-if5
-    add-if5
+    head-length-requires
     returns-5
     returns-6)
