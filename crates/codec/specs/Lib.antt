@@ -4,6 +4,7 @@ pub mod Encode
 pub mod Field
 pub mod Head
 pub mod Kind
+pub mod Limit
 pub mod Number
 pub mod Roundtrip
 pub mod Store

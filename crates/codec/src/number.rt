@@ -1,9 +1,9 @@
 // Document 01's number table.
 
 // 1: T not 1 to 16.
-pub const TASKS: u32 = 1;
+pub const TASK_RANGE: u32 = 1;
 // 2: N not 1 to 256.
-pub const OBJECTS: u32 = 2;
+pub const OBJECT_RANGE: u32 = 2;
 // 3: a list or memory not of N entries.
 pub const ENTRIES: u32 = 3;
 // 4: an owner not below T.

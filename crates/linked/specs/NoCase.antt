@@ -8,7 +8,7 @@ use borrow.Author.Tests.{ne-eqb}
 use lib.ListN.{getD}
 use Rattle.tracker.specs.declared.ObjectRecord.{ObjectRecord}
 use Rattle.tracker.specs.declared.Locality.the-variants.{ReadShared}
-use Rattle.tracker.specs.Range.{within-below}
+use Rattle.codec.specs.Limit.{within-below}
 use Rattle.tracker.specs.Scan.{scan-bad}
 use Rattle.tracker.specs.Sound.{objectSound, soundOf}
 use Rattle.tracker.specs.State.{owned}

@@ -6,7 +6,7 @@ use Prim.Native.Nat.{ℕ, suc, _+_, _-_, _≤_, _<_}
 use native.Mathlib.Omega.{arith}
 use lib.ListN.{length, drop, length-append}
 use lib.Seq.{take-at, drop-at, drop-drop}
-use borrow.Author.Tests.{lt-ltb, le-leb, eq-eqb, ne-eqb}
+use borrow.Author.Tests.{lt-ltb, eq-eqb, ne-eqb}
 use Rattle.codec.specs.declared.Position.{Position}
 use Rattle.codec.specs.declared.Op.{Op}
 use Rattle.codec.specs.declared.Op.the-variants.{Read, Write}
@@ -14,6 +14,7 @@ use Rattle.codec.specs.Encode.{startTwo, cell, cells, head, section, ordering, 
 use Rattle.codec.specs.Field.{le2, le4, field2, field4, field4-le4}
 use Rattle.codec.specs.Kind.{headKind}
 use Rattle.codec.specs.Head.{headLength}
+use Rattle.codec.specs.Limit.{maxTasks, maxObjects, within-test}
 use Rattle.codec.specs.Number.{short, inBody}
 use Rattle.codec.specs.Roundtrip.{FitsOp, read-ordering, read-access, read-section, read-head}
 use Rattle.reader.specs.declared.Checked.{Checked}
@@ -138,7 +139,7 @@ under-below n (x ∷ l) i = rw (lt-ltb x n (i .0)) (under-below n l (i .1))
 
 sizes-ok : (t n : ℕ) → 1 ≤ t → t ≤ 16 → 1 ≤ n → n ≤ 256 → sizesOk t n ≡ true
 unfolding sizesOk
-sizes-ok t n a b c d = rw (le-leb 1 t a, le-leb t 16 b, le-leb 1 n c, le-leb n 256 d)
+sizes-ok t n a b c d = rw (within-test 1 maxTasks t a b, within-test 1 maxObjects n c d)
 
 head-back : (r : Recording) (rest : List ℕ) → HeadIn (r .tasks) (r .owners) (r .values)
     → headAt (head (r .tasks) (r .owners) (r .values) ++ rest) ≡ read (record { tasks = r .tasks; owners = r .owners; values = r .values })

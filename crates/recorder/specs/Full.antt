@@ -12,7 +12,7 @@ use Rattle.tracker.specs.Facts.{Sound, sound-test}
 use Rattle.tracker.specs.Kept.{next-facts}
 use Rattle.tracker.specs.After.{next-tasks, next-objects, next-shaped, next-done}
 use Rattle.tracker.specs.Opened.{openedState, opened-facts, opened-shaped}
-use Rattle.tracker.specs.Range.{isWithin}
+use Rattle.codec.specs.Limit.{isWithin}
 use Rattle.tracker.specs.State.{Shaped, doneOf}
 use Rattle.recorder.specs.AccessOf.{checked, accessNumber, accepted, refused, accessOf}
 use Rattle.recorder.specs.Accepted.{Takes, takes-accepted, entry-bound}

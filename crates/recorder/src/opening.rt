@@ -4,14 +4,16 @@ ghost use Prim.Native.Nat.{_≤_};
 ghost use lib.ListN.{length};
 ghost use Rattle.reader.specs.Parse.{allBelow};
 ghost use Rattle.tracker.specs.Opened.{ownedRecords};
-ghost use Rattle.tracker.specs.Range.{isWithin};
 ghost use Rattle.recorder.specs.OpenOf.{entriesOk, openNumber};
 use codec::head::head_length;
+use codec::limit::OBJECTS;
+use codec::limit::TASKS;
+use codec::limit::within;
 use codec::number::ENTRIES;
-use codec::number::OBJECTS;
+use codec::number::OBJECT_RANGE;
 use codec::number::OWNER;
 use codec::number::ROOM;
-use codec::number::TASKS;
+use codec::number::TASK_RANGE;
 use tracker::Locality;
 use tracker::ObjectRecord;
 
@@ -25,16 +27,6 @@ pub(crate) fn owners_below(owners: &[u8], tasks: usize) -> bool
         }
     }
     true
-}
-
-// `n` is `low` to `high`.
-fn within(low: usize, high: usize, n: usize) -> bool
-    ensures { λ r. ⌜ r ≡ isWithin low high n ⌝ }
-{
-    if n < low {
-        return false;
-    }
-    n <= high
 }
 
 // The lists and the memory have N entries.
@@ -61,11 +53,11 @@ pub(crate) fn open_number(
 ) -> u32
     ensures { λ r. ⌜ r ≡ openNumber tasks objects (now (owners .entry)) starts memory out ⌝ }
 {
-    if !within(1, 16, tasks) {
-        return TASKS;
+    if !within(1, TASKS, tasks) {
+        return TASK_RANGE;
     }
-    if !within(1, 256, objects) {
-        return OBJECTS;
+    if !within(1, OBJECTS, objects) {
+        return OBJECT_RANGE;
     }
     if !entries_ok(objects, owners.len(), starts, memory) {
         return ENTRIES;

@@ -18,7 +18,8 @@ use Rattle.tracker.specs.Class.{classOf}
 use Rattle.tracker.specs.Next.{localityAfter, effectOf, nextOf}
 use Rattle.tracker.specs.Opened.{ownedRecords, openedState}
 use Rattle.tracker.specs.Orderings.{everyDone, orderingsOf, leftOut, written}
-use Rattle.tracker.specs.Range.{isWithin, allBelow as allPass}
+use Rattle.codec.specs.Limit.{isWithin}
+use Rattle.tracker.specs.Range.{allBelow as allPass}
 use Rattle.tracker.specs.Row.{rowOf}
 use Rattle.tracker.specs.Sound.{lastSound, taskSound, tasksSound, objectSound, soundOf}
 use Rattle.tracker.specs.Sum.{sumOf}

@@ -31,7 +31,8 @@ use Rattle.tracker.specs.Class.{classOf}
 use Rattle.tracker.specs.Next.{nextOf, localityAfter, effectOf}
 use Rattle.tracker.specs.Opened.{openedState, ownedRecords}
 use Rattle.tracker.specs.Orderings.{orderingsOf, everyDone, written, leftOut}
-use Rattle.tracker.specs.Range.{isWithin, allBelow as allBelow-tracker-range}
+use Rattle.codec.specs.Limit.{isWithin}
+use Rattle.tracker.specs.Range.{allBelow as allBelow-tracker-range}
 use Rattle.tracker.specs.Row.{rowOf}
 use Rattle.tracker.specs.Sound.{soundOf, lastSound, taskSound, tasksSound, objectSound}
 use Rattle.tracker.specs.Sum.{sumOf}

@@ -1,7 +1,7 @@
 -- The class of a row (document 01: "1 to 3 same, 4 and 5 upgrading, 6 fence, 7 to 10 conflicting").
 use mathlib.Core.Bool.{cond}
 use Prim.Native.Nat.{ℕ}
-use Rattle.tracker.specs.Range.{isWithin}
+use Rattle.codec.specs.Limit.{isWithin}
 
 -- the classes' numbers; none is a refused access's
 abbrev pub none : ℕ

@@ -9,7 +9,8 @@ use lib.Dec.{eqb, leb, ltb}
 use lib.ListN.{getD}
 use Rattle.codec.specs.declared.Position.{Position}
 use Rattle.tracker.specs.State.{doneOf, seenOf, tookOf, localityOf, holderOf, shareOf}
-use Rattle.tracker.specs.Range.{isWithin, within-facts, within-test, allBelow, all-at, all-from}
+use Rattle.codec.specs.Limit.{isWithin, within-facts, within-test}
+use Rattle.tracker.specs.Range.{allBelow, all-at, all-from}
 use Rattle.tracker.specs.Sum.{sumOf}
 use Rattle.tracker.specs.Sound.{lastSound, taskSound, taskSoundAt, tasksSound, objectSound, objectSoundAt, soundOf}
 use Rattle.tracker.specs.declared.Locality.{Locality}

@@ -1,34 +1,11 @@
--- Tests over ranges of numbers.
+-- A test of every number below a bound.
 use mathlib.Core.Bool.{Bool, true, false, _&&_, and-false, and-eq-true-iff}
 use mathlib.Core.Logic.{⊎-elim}
 use mathlib.Core.Path.{_≡_, refl}
-use Prim.Native.Nat.{ℕ, zero, suc, _+_, _≤_, _<_}
+use Prim.Native.Nat.{ℕ, zero, suc, _+_, _<_}
 use native.Mathlib.Nat.{eq-or-lt-of-le, le-of-suc-le-suc}
 use native.Mathlib.Numerals.{add-one}
 use native.Mathlib.Omega.{arith}
-use borrow.Author.Tests.{le-leb, lt-leb, leb-true}
-use lib.Dec.{leb}
-
--- `n` is `low` to `high`
-unfoldable pub isWithin : ℕ → ℕ → ℕ → Bool
-isWithin low high n = leb low n && leb n high
-
-pub within-facts : (low high n : ℕ) → isWithin low high n ≡ true → (low ≤ n) × (n ≤ high)
-unfolding isWithin
-within-facts low high n e =
-    let b = and-eq-true-iff (leb low n) (leb n high) .0 e in (leb-true low n (b .0), leb-true n high (b .1))
-
-pub within-test : (low high n : ℕ) → low ≤ n → n ≤ high → isWithin low high n ≡ true
-unfolding isWithin
-within-test low high n h k = rw (le-leb low n h, le-leb n high k)
-
-pub within-below : (low high n : ℕ) → n < low → isWithin low high n ≡ false
-unfolding isWithin
-within-below low high n h = rw (lt-leb low n h)
-
-pub within-above : (low high n : ℕ) → high < n → isWithin low high n ≡ false
-unfolding isWithin
-within-above low high n h = rw (lt-leb n high h) (and-false (leb low n))
 
 -- the test passes at each number below n
 unfoldable pub allBelow : (ℕ → Bool) → ℕ → Bool

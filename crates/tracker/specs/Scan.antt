@@ -6,7 +6,8 @@ use native.Mathlib.Numerals.{add-one}
 use native.Mathlib.Omega.{arith}
 use Rattle.codec.specs.Decide.{passes, fails, split}
 use Rattle.tracker.specs.Marks.{marksOf}
-use Rattle.tracker.specs.Range.{isWithin, within-facts, allBelow, all-fails}
+use Rattle.codec.specs.Limit.{isWithin, within-facts}
+use Rattle.tracker.specs.Range.{allBelow, all-fails}
 use Rattle.tracker.specs.Sound.{lastSound, tasksSound, objectSoundAt, soundOf}
 use Rattle.tracker.specs.declared.Marks.{Marks}
 use Rattle.tracker.specs.declared.State.{State}

@@ -6,7 +6,8 @@ use lib.Dec.{eqb, leb, ltb}
 use lib.ListN.{getD}
 use Rattle.codec.specs.declared.Position.{Position}
 use Rattle.tracker.specs.State.{localityOf}
-use Rattle.tracker.specs.Range.{isWithin, allBelow}
+use Rattle.codec.specs.Limit.{isWithin}
+use Rattle.tracker.specs.Range.{allBelow}
 use Rattle.tracker.specs.Sum.{sumOf}
 use Rattle.tracker.specs.declared.Locality.{Locality}
 use Rattle.tracker.specs.declared.Locality.the-variants.{WriteExclusive, ReadExclusive, ReadShared}

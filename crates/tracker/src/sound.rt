@@ -2,19 +2,15 @@
 // over the records themselves, since a function that took them would be given a copy.
 ghost use mathlib.Core.Path.{_≡_};
 ghost use Prim.Native.Nat.{_≤_, min};
-ghost use Rattle.tracker.specs.Range.{isWithin};
 ghost use Rattle.tracker.specs.Scan.{marksSound};
 ghost use Rattle.tracker.specs.Sound.{lastSound, taskSound, tasksSound, objectSound};
 use crate::Locality;
 use crate::Marks;
 use codec::Position;
-
-// `n` is `low` to `high`.
-fn within(low: u32, high: u32, n: u32) -> bool
-    ensures { λ r. ⌜ r ≡ isWithin low high n ⌝ }
-{
-    low <= n && n <= high
-}
+use codec::limit::OBJECTS;
+use codec::limit::TASKS;
+use codec::limit::least;
+use codec::limit::within;
 
 // Last is none, and then there is no share, or its task has made that access.
 fn last_sound(last: Position, tasks: u16, shares: u32, done: [u16; 16]) -> bool
@@ -45,7 +41,7 @@ pub fn object_sound(locality: Locality, tasks: u16, shares: u32) -> bool
     match locality {
         Locality::WriteExclusive(holder) => holder < tasks,
         Locality::ReadExclusive(holder) => holder < tasks,
-        Locality::ReadShared(share) => within(1, shares, share),
+        Locality::ReadShared(share) => 1 <= share && share <= shares,
     }
 }
 
@@ -77,10 +73,10 @@ pub fn marks_sound(marks: Marks) -> bool
     let done = marks.done;
     let seen = marks.seen;
     let took = marks.took;
-    if !within(1, 16, tasks as u32) {
+    if !within(1, TASKS, tasks as usize) {
         return false;
     }
-    if !within(1, 256, marks.objects as u32) {
+    if !within(1, OBJECTS, marks.objects as usize) {
         return false;
     }
     if !last_sound(last, tasks, shares, done) {
@@ -93,8 +89,5 @@ pub fn marks_sound(marks: Marks) -> bool
 pub fn objects_in(objects: u16) -> usize
     ensures { λ r. ⌜ r ≡ min objects 256 ⌝ }
 {
-    if objects < 256 {
-        return objects as usize;
-    }
-    256
+    least(objects as usize, OBJECTS)
 }

@@ -1,7 +1,7 @@
 use mathlib.Core.Bool.{true}
 use mathlib.Core.Path.{_≡_, _∙_, sym}
 use borrow.Author.Tests.{not-true, not-false}
-use Rattle.tracker.specs.Range.{isWithin, within-facts}
+use Rattle.codec.specs.Limit.{isWithin, within-facts}
 use Rattle.tracker.specs.Scan.{marksSound}
 use Rattle.tracker.specs.Sound.{lastSound}
 use borrow.Author.Needs.{needs}

@@ -1,3 +1,5 @@
+use borrow.Author.Tests.{le-leb, lt-leb}
+use Rattle.codec.specs.Limit.{isWithin}
 use Rattle.tracker.specs.Sound.{objectSound}
 use borrow.Author.Needs.{needs}
 use Rattle.tracker.proofs.sound.object_sound.Statement.{statement}
@@ -12,9 +14,6 @@ enum-known-locality-2 c = search needs
 enum-known-locality-3 : tie.Need-enum-known-locality-3
 enum-known-locality-3 c = search needs
 
-within-requires : tie.Need-within-requires
-within-requires c κs = search needs
-
 returns : tie.Need-returns
 unfolding objectSound
 returns c = simp (c .before .locality .given .1)
@@ -24,8 +23,12 @@ unfolding objectSound
 returns-2 c = simp (c .before .locality2 .given .1)
 
 returns-3 : tie.Need-returns-3
-unfolding objectSound
-returns-3 c = rw (c .before .before .locality3 .given .1) (c .within .ensures)
+unfolding objectSound isWithin
+returns-3 c = rw (c .before .before .locality3 .given .1, le-leb _ _ (c .if1 .taken))
+
+returns-4 : tie.Need-returns-4
+unfolding objectSound isWithin
+returns-4 c = rw (c .before .before .locality3 .given .1, lt-leb _ _ (c .if1 .left))
 
 pub object-sound-spec : {M : Type 1} → statement M
 object-sound-spec =
@@ -34,7 +37,7 @@ object-sound-spec =
     enum-known-locality
     enum-known-locality-2
     enum-known-locality-3
-    within-requires
     returns
     returns-2
-    returns-3)
+    returns-3
+    returns-4)
