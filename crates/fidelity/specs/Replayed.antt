@@ -21,7 +21,7 @@ use Rattle.history.specs.Ready.{Ready}
 use Rattle.history.specs.Faithful.{after, Faithful, faithful}
 use Rattle.replayer.specs.declared.Stepped.{Stepped}
 use Rattle.replayer.specs.All.{all-test}
-use Rattle.replayer.specs.Finish.{tasksIn, finishedOf}
+use Rattle.playback.specs.Finish.{tasksIn, finishedOf}
 use Rattle.replayer.specs.OpenOf.{openOf}
 use Rattle.replayer.specs.ReadyLaws.{ReadySet, ready-word}
 use Rattle.replayer.specs.ReadyOf.{isReady as isReadyBy, readyOf}

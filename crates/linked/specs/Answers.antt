@@ -12,10 +12,10 @@ use Rattle.recorder.specs.declared.Sectioned.{Sectioned}
 use Rattle.recorder.specs.declared.pack.Packed.{Packed}
 use Rattle.replayer.specs.declared.Opened.{Opened as ReplayOpened}
 use Rattle.replayer.specs.declared.ReadyWord.{ReadyWord}
-use Rattle.replayer.specs.declared.finish.Completion.{Completion}
+use Rattle.playback.specs.declared.finish.Completion.{Completion}
 use Rattle.replayer.specs.declared.Stepped.{Stepped}
-use Rattle.replayer.specs.declared.alike.Compared.{Compared}
-use Rattle.replayer.specs.declared.to_end.Replayed.{Replayed}
+use Rattle.playback.specs.declared.alike.Compared.{Compared}
+use Rattle.playback.specs.declared.to_end.Replayed.{Replayed}
 use Rattle.replayer.specs.Word.{bit, readyCount, lowestReady}
 use Rattle.linked.specs.CopyOf.{Copied}
 

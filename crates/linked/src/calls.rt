@@ -15,11 +15,11 @@ ghost use Rattle.recorder.specs.OpenOf.{openOf};
 ghost use Rattle.recorder.specs.SectionOf.{sectionOf};
 ghost use Rattle.replayer.specs.OpenOf.{openOf as replayOf};
 ghost use Rattle.replayer.specs.ReadyOf.{readyOf};
-ghost use Rattle.replayer.specs.Finish.{finishedCall};
-ghost use Rattle.replayer.specs.Schedule.{scheduleFrom};
+ghost use Rattle.playback.specs.Finish.{finishedCall};
+ghost use Rattle.playback.specs.Schedule.{scheduleFrom};
 ghost use Rattle.replayer.specs.StepOf.{stepOf};
-ghost use Rattle.replayer.specs.Alike.{sameOutcomeOf};
-ghost use Rattle.replayer.specs.ToEnd.{toEndOf};
+ghost use Rattle.playback.specs.Alike.{sameOutcomeOf};
+ghost use Rattle.playback.specs.ToEnd.{toEndOf};
 ghost use Rattle.linked.specs.Answers.{openNumbers, accessNumbers, sectionNumbers, checkNumbers, replayOpenNumbers, readyNumbers, finishedNumbers, stepNumbers, sameNumbers, toEndNumbers};
 ghost use Rattle.linked.specs.Halves.{stateIn, halvesOf, wordsOf, movedTo};
 ghost use Rattle.linked.specs.Places.{runIn, placesOf};
@@ -27,13 +27,13 @@ use crate::layout::put_run;
 use crate::layout::put_state;
 use crate::layout::run_of;
 use crate::layout::state_of;
-use replayer::alike::same_outcome;
-use replayer::finish::finished;
+use playback::alike::same_outcome;
+use playback::finish::finished;
+use playback::schedule::schedule;
+use playback::to_end::replay_to_end;
 use replayer::lowest_ready;
 use replayer::ready;
 use replayer::ready_count;
-use replayer::schedule::schedule;
-use replayer::to_end::replay_to_end;
 
 #[no_mangle]
 pub extern "C" fn wk_open(

@@ -16,13 +16,13 @@ use Rattle.reader.specs.Parse.{Parsed, parse}
 use Rattle.reader.specs.Reading.{read as reads}
 use Rattle.reader.specs.Recording.{Recording}
 use Rattle.replayer.specs.declared.Stepped.{Stepped}
-use Rattle.replayer.specs.Finish.{Play, finishedOf}
-use Rattle.replayer.specs.FinishLaws.{Playing}
+use Rattle.playback.specs.Finish.{Play, finishedOf}
+use Rattle.playback.specs.FinishLaws.{Playing}
 use Rattle.replayer.specs.OpenLaws.{opened-stands, open-accepts}
 use Rattle.replayer.specs.OpenOf.{openedRun, openOf}
-use Rattle.replayer.specs.Schedule.{scheduleOf, playedBy}
+use Rattle.playback.specs.Schedule.{scheduleOf, playedBy}
 use Rattle.replayer.specs.ReadyOf.{readyOf}
-use Rattle.replayer.specs.ScheduleLaws.{AllTaken as AllTakenBy, schedule-taken, schedule-ends}
+use Rattle.playback.specs.ScheduleLaws.{AllTaken as AllTakenBy, schedule-taken, schedule-ends}
 use Rattle.replayer.specs.StepOf.{stepOf}
 use Rattle.fidelity.specs.Bench.{Bench, benchOf, stepped, steppedAll, takes, tally, tallyOf, AllTaken}
 use Rattle.fidelity.specs.Box.{Opening, Asked, lastBox, recorded, recordingOf, recordingBy}

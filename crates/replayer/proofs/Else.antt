@@ -8,11 +8,8 @@ use mathlib.Core.Bool.{true, false}
 use Rattle.reader.proofs.entry.Found.{the-type as found-type}
 use Rattle.reader.specs.declared.entry.Found.{Found}
 use Rattle.reader.specs.declared.entry.Found.the-variants.{Access as FoundAccess, Refused as FoundRefused}
-use Rattle.replayer.proofs.lowest.NextStep.{the-type as step-type}
 use Rattle.replayer.proofs.next.Next.{the-type as next-type}
 use Rattle.replayer.specs.declared.Run.{Run}
-use Rattle.replayer.specs.declared.lowest.NextStep.{NextStep}
-use Rattle.replayer.specs.declared.lowest.NextStep.the-variants.{Ready, Stopped}
 use Rattle.replayer.specs.declared.next.Next.{Next}
 use Rattle.replayer.specs.declared.next.Next.the-variants.{Open, Held, Refused}
 use Rattle.replayer.specs.Next.{refusalOf, isOpen}
@@ -38,7 +35,3 @@ pub closed-next : (n : Next) → OneOf (1 ∷ 2 ∷ []) (tagOf next-type n) → 
 closed-next (Open o k) h = absurd (miss (1 ∷ 2 ∷ []) 0 tt h)
 closed-next Held h = refl
 closed-next (Refused c) h = refl
-
-pub not-ready : (n : NextStep) → OneOf (1 ∷ []) (tagOf step-type n) → n ≡ Stopped
-not-ready (Ready t o y) h = absurd (miss (1 ∷ []) 0 tt h)
-not-ready Stopped h = refl

@@ -41,6 +41,17 @@ all-from f i (suc n) g =
     let p : f i ≡ true = rw add-zero at (g 0 (omega arith)) in
     rw p (all-from f (suc i) n (λ k h. let e : suc i + k ≡ i + suc k = omega arith in rw e (g (suc k) (omega arith))))
 
+-- tests that agree
+all-alike : (f g : ℕ → Bool) (i n : ℕ) → ((k : ℕ) → k < n → f (i + k) ≡ g (i + k)) → allFrom f i n ≡ allFrom g i n
+unfolding allFrom
+all-alike f g i zero h = refl
+all-alike f g i (suc n) h =
+    let p : f i ≡ g i = rw add-zero at (h 0 (omega arith)) in
+    rw (p, all-alike f g (suc i) n (λ k l. let e : suc i + k ≡ i + suc k = omega arith in rw e (h (suc k) (omega arith))))
+
+pub all-same : (f g : ℕ → Bool) (n : ℕ) → ((k : ℕ) → k < n → f k ≡ g k) → allFrom f 0 n ≡ allFrom g 0 n
+all-same f g n h = all-alike f g 0 n (λ k l. let e : 0 + k ≡ k = omega arith in rw e (h k l))
+
 pub all-facts : (f : ℕ → Bool) (n : ℕ) → allFrom f 0 n ≡ true → (k : ℕ) → k < n → f k ≡ true
 all-facts f n p k h = let e : 0 + k ≡ k = omega arith in rw e at (all-at f 0 n p k h)
 

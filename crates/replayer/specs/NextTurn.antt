@@ -24,6 +24,7 @@ use Rattle.reader.specs.Part.{part, part-drop, part-length}
 use Rattle.reader.specs.Reading.{Reading, refused, read, stop}
 use Rattle.reader.specs.Recording.{Entry}
 use Rattle.replayer.specs.declared.TaskRun.{TaskRun}
+use Rattle.replayer.specs.declared.next.Look.{Look}
 use Rattle.replayer.specs.declared.next.Next.{Next}
 use Rattle.replayer.specs.declared.next.Next.the-variants.{Open, Held, Refused}
 use Rattle.replayer.specs.Dones.{donesOf, dones-at}
@@ -67,6 +68,11 @@ pub record Reached (m : Limits) (b dones : List ℕ) (from end place at : ℕ) :
 -- how far any group that is judged up to a place can be judged from there
 abbrev pub Scanned : List ℕ → List ℕ → ℕ → ℕ → ℕ → Type 0
 Scanned b dones scan at place = (m : Limits) (from end : ℕ) → Ahead m b dones from end scan at → Reached m b dones from end place at
+
+-- what a look at a group tells: what stands next, and how far that is judged
+pub record Looked (m : Limits) (b dones : List ℕ) (from end : ℕ) (k : Look) : Type 0 where
+  pub looks : Looks dones from (groupAt m b from end) (k .next)
+  pub judged-to : from < k .at → Ahead m b dones from end (k .scan) (k .at)
 
 pub ahead-later : (m : Limits) (b dones later : List ℕ) (from end place at : ℕ) → ((s : ℕ) → s < 16 → getD dones s 0 ≤ getD later s 0)
     → Ahead m b dones from end place at → Ahead m b later from end place at

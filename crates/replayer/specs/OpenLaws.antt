@@ -25,7 +25,7 @@ use Rattle.replayer.specs.Sound.{soundOf, sound-test}
 use Rattle.replayer.specs.Moved.{Shaped}
 use Rattle.replayer.specs.OpenOf.{startOf, startsOf, openedRun, onParse, openOf}
 
-starts-length : (spans : List Span) (n : ℕ) → length (startsOf spans n) ≡ 16
+pub starts-length : (spans : List Span) (n : ℕ) → length (startsOf spans n) ≡ 16
 unfolding startsOf
 starts-length spans zero = refl
 starts-length spans (suc n) = length-set (startsOf spans n) n (startOf (getD spans n noSpan)) ∙ starts-length spans n

@@ -1,10 +1,12 @@
 -- One turn of each loop of the opening, and the opening as the code does it, over plain variables.
 use mathlib.Core.Path.{_≡_, refl, sym, _∙_}
 use mathlib.Core.List.{List}
-use Prim.Native.Nat.{ℕ, zero, suc, _+_, _-_, _≤_, _<_}
+use Prim.Native.Nat.{ℕ, zero, suc, _+_, _-_, _<_, min}
 use native.Mathlib.Numerals.{add-one}
+use native.Mathlib.Decide.{decLt}
 use native.Mathlib.Omega.{arith}
 use lib.ListN.{length, getD, set}
+use lib.Seq.{set-out}
 use borrow.Author.Tests.{eq-eqb, ne-eqb}
 use Rattle.reader.specs.declared.Span.{Span}
 use Rattle.reader.specs.declared.survey.Layout.{Layout}
@@ -14,12 +16,12 @@ use Rattle.reader.specs.Layout.{layoutOf}
 use Rattle.reader.specs.Parse.{Parsed, parse}
 use Rattle.reader.specs.Positive.{parse-positive}
 use Rattle.reader.specs.Reading.{Reading, refused, read}
-use Rattle.reader.specs.Standing.{Standing, parse-stands}
 use Rattle.reader.specs.Starting.{startingIn}
 use Rattle.reader.specs.StartingLaws.{starting-there}
 use Rattle.codec.specs.Number.{entries as wrongLength}
 use Rattle.replayer.specs.Run.{blankTasks}
-use Rattle.replayer.specs.OpenOf.{startOf, startsOf, refusedOpen, onParse, openOf}
+use Rattle.replayer.specs.OpenLaws.{starts-length}
+use Rattle.replayer.specs.OpenOf.{startOf, startsOf, begunOf, refusedOpen, onParse, openOf}
 
 -- the tasks
 pub starts-none : (spans : List Span) → startsOf spans 0 ≡ blankTasks
@@ -29,6 +31,19 @@ starts-none spans = refl
 pub starts-more : (spans : List Span) (n : ℕ) → startsOf spans (n + 1) ≡ set (startsOf spans n) n (startOf (getD spans n noSpan))
 unfolding startsOf
 starts-more spans n = rw add-one
+
+-- no task at 16 or above is set
+pub starts-clipped : (spans : List Span) (n : ℕ) → startsOf spans (min n 16) ≡ startsOf spans n
+starts-clipped spans n = elim (decLt n 17) [
+  | yes h ↦ let e : min n 16 ≡ n = omega arith in rw e
+  | no h ↦ let e : min n 16 ≡ 16 = omega (arith, h) in let f : n ≡ 16 + (n - 16) = omega (arith, h) in rw e (rw f (sym (beyond (n - 16))))
+]
+  where
+    beyond : (k : ℕ) → startsOf spans (16 + k) ≡ startsOf spans 16
+    beyond zero = refl
+    beyond (suc k) =
+        let e : 16 + suc k ≡ (16 + k) + 1 = omega arith in
+        rw (e, starts-more spans (16 + k), set-out (startsOf spans (16 + k)) (16 + k) (startOf (getD spans (16 + k) noSpan)) (omega (arith, starts-length spans (16 + k)))) (beyond k)
 
 starts-same : (a b : List Span) (n : ℕ) → ((t : ℕ) → t < n → getD a t noSpan ≡ getD b t noSpan) → startsOf a n ≡ startsOf b n
 unfolding startsOf
@@ -41,8 +56,7 @@ pub record Refusing (b memory : List ℕ) (number offset : ℕ) : Type 0 where
   pub kept : memory ≡ openOf b memory .memory
 
 pub record Opening (b memory : List ℕ) (l : Layout) : Type 0 where
-  pub tasks : l .tasks ≤ 16
-  pub answer : record { number = 0; offset = 0; run = record { tasks = l .tasks; objects = l .objects; runs = startsOf (l .spans) (l .tasks) } } ≡ openOf b memory .answer
+  pub answer : record { number = 0; offset = 0; run = begunOf l } ≡ openOf b memory .answer
   pub values : startingIn b memory ≡ openOf b memory .memory
 
 module _ (b memory : List ℕ) (l : Layout) (e : l ≡ layoutOf (parse b)) where
@@ -82,12 +96,10 @@ module _ (b memory : List ℕ) (l : Layout) (e : l ≡ layoutOf (parse b)) where
           omega arith)
       go (read p) q =
           let w : Laid p l = rw e (laid-read b p q) in
-          let s : Standing b p = parse-stands b p q in
           let v : Valued b p = parse-valued b p q in
           let n : length memory ≡ length (p .recording .owners) = h ∙ w .objects in
           let d = eq-eqb (length memory) (length (p .recording .owners)) n in
           record {
-            tasks = rw (w .tasks) (s .few-tasks);
             answer = rw (q, d, w .tasks, w .objects, starts-same (l .spans) (p .spans) (p .recording .tasks) (w .span));
             values = rw (starting-there b memory (rw n (v .within)), q, d, n) (sym (v .values));
           }

@@ -1,9 +1,8 @@
 // What a step does: the tests before the bytes, the access on the memory, the run's move, and the answers.
 ghost use mathlib.Core.Path.{_≡_};
 ghost use Prim.Native.Nat.{_+_, _<_};
-ghost use lib.ListN.{length};
 ghost use Rattle.reader.specs.Object.{objectOf};
-ghost use Rattle.replayer.specs.Run.{doneOf, advanced as advancedOf, movedOf};
+ghost use Rattle.replayer.specs.Run.{doneOf, movedOf};
 ghost use Rattle.replayer.specs.Memory.{kindOf, valueOf, performed};
 ghost use Rattle.replayer.specs.StepOf.{refusedStep, barredOf, haltOf};
 use crate::Run;
@@ -92,35 +91,28 @@ pub(crate) fn object_of(op: Op) -> usize
     }
 }
 
-// A read gives the memory's value, a write stores and gives its own.
-pub(crate) fn perform(op: Op, memory: &mut [u32]) -> u32
-    requires { ⌜ objectOf op < length (now memory) ⌝ }
+// A read gives the memory's value, a write stores and gives its own. An object that the memory has no entry for reads as 0, and nothing
+// is stored for it.
+pub fn perform(op: Op, memory: &mut [u32]) -> u32
     ensures { λ r. ⌜ r ≡ valueOf op (now (memory .entry)) ⌝ }
     ensures { λ r. ⌜ now (memory .exit) ≡ performed op (now (memory .entry)) ⌝ }
 {
     match op {
         Op::Read(object) => {
             let o = object as usize;
+            if memory.len() <= o {
+                return 0;
+            }
             memory[o]
         }
         Op::Write(object, value) => {
             let o = object as usize;
+            if memory.len() <= o {
+                return value;
+            }
             memory[o] = value;
             value
         }
-    }
-}
-
-// A task goes on to a place, with one more access done.
-pub(crate) fn advanced(x: TaskRun, next: usize) -> TaskRun
-    requires { ⌜ x .done < x .count ⌝ }
-    ensures { λ r. ⌜ r ≡ advancedOf x next ⌝ }
-{
-    TaskRun {
-        place: next,
-        end: x.end,
-        done: x.done + 1,
-        count: x.count,
     }
 }
 

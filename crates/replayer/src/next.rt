@@ -4,8 +4,7 @@ ghost use Prim.Native.Nat.{_≤_, _<_};
 ghost use lib.ListN.{length};
 ghost use Rattle.replayer.specs.Run.{taskAt};
 ghost use Rattle.replayer.specs.Dones.{donesOf};
-ghost use Rattle.replayer.specs.Look.{groupAt, Looks};
-ghost use Rattle.replayer.specs.NextTurn.{InGroup, Scanned};
+ghost use Rattle.replayer.specs.NextTurn.{InGroup, Scanned, Looked};
 ghost use Rattle.replayer.specs.Next.{refusalOf, nextOf};
 use crate::Run;
 use codec::Op;
@@ -19,10 +18,18 @@ use reader::entry::number_at;
 use reader::entry::source_at;
 
 // An access that may be done now and the place behind it; one that an ordering holds; or records that do not read.
-pub(crate) enum Next {
+pub enum Next {
     Open { op: Op, next: usize },
     Held,
     Refused(Checked),
+}
+
+// What is found by looking at a task's next group: what stands next, and how far it is judged. The place of the access's record, and the
+// place of the first ordering before it that is not met, or of the record where all are met; 0 and 0 where the group does not read.
+pub struct Look {
+    pub next: Next,
+    pub scan: usize,
+    pub at: usize,
 }
 
 // The reader's number and offset, 0 and 0 where an access was found.
@@ -44,7 +51,7 @@ pub(crate) fn refusal(f: Found) -> Checked
 
 // The place of the first ordering from a place on that is not met, or the place of the access's record. Up to that record there are
 // orderings, of which the source and the number are all that is looked at.
-pub(crate) fn first_unmet(bytes: &[u8], from: usize, at: usize, dones: &[usize; 16]) -> usize
+pub fn first_unmet(bytes: &[u8], from: usize, at: usize, dones: &[usize; 16]) -> usize
     requires { ⌜ InGroup (now bytes) (now dones) from at ⌝ }
     ensures { λ r. ⌜ Scanned (now (bytes .entry)) (now (dones .entry)) from at r ⌝ }
 {
@@ -61,24 +68,32 @@ pub(crate) fn first_unmet(bytes: &[u8], from: usize, at: usize, dones: &[usize; 
 }
 
 // The group from a place up to a body's end, held to the counts done. All of it is read before an ordering is judged.
-pub(crate) fn look_at(
-    bytes: &[u8],
-    from: usize,
-    end: usize,
-    limits: Limits,
-    dones: &[usize; 16],
-) -> Next
+pub fn look_at(bytes: &[u8], from: usize, end: usize, limits: Limits, dones: &[usize; 16]) -> Look
     requires { ⌜ (limits .tasks ≤ 16) × (end ≤ length (now bytes)) ⌝ }
-    ensures { λ r. ⌜ Looks (now (dones .entry)) from (groupAt limits (now (bytes .entry)) from end) r ⌝ }
+    ensures { λ r. ⌜ Looked limits (now (bytes .entry)) (now (dones .entry)) from end r ⌝ }
 {
     let f = entry_at(bytes, from, end, limits);
     let Found::Access { op, at, next } = f else {
-        return Next::Refused(refusal(f));
+        let c = refusal(f);
+        return Look {
+            next: Next::Refused(c),
+            scan: 0,
+            at: 0,
+        };
     };
-    if first_unmet(bytes, from, at, dones) < at {
-        return Next::Held;
+    let scan = first_unmet(bytes, from, at, dones);
+    if scan < at {
+        return Look {
+            next: Next::Held,
+            scan,
+            at,
+        };
     }
-    Next::Open { op, next }
+    Look {
+        next: Next::Open { op, next },
+        scan,
+        at,
+    }
 }
 
 // The counts done, one for each task.
@@ -105,5 +120,6 @@ pub(crate) fn next_of(run: Run, bytes: &[u8], task: usize) -> Next
         own: task,
     };
     let dones = dones_of(run);
-    look_at(bytes, x.place, x.end, limits, &dones)
+    let k = look_at(bytes, x.place, x.end, limits, &dones);
+    k.next
 }

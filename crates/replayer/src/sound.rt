@@ -28,7 +28,7 @@ fn task_sound(x: TaskRun, size: usize) -> bool
 }
 
 // Document 01: a sound run over so many bytes; number 17 is for any other.
-pub(crate) fn sound(run: Run, size: usize) -> bool
+pub fn sound(run: Run, size: usize) -> bool
     ensures { λ r. ⌜ r ≡ soundOf run size ⌝ }
 {
     let tasks = run.tasks;

@@ -1,13 +1,13 @@
 // What opening sets: the memory to the starting values, each task to the start of its body.
 ghost use mathlib.Core.Path.{_≡_};
-ghost use Prim.Native.Nat.{_≤_};
-ghost use Rattle.replayer.specs.OpenOf.{startsOf, refusedOpen, openOf};
-ghost use Rattle.replayer.specs.OpenTurn.{Opening};
+ghost use Rattle.reader.specs.Starting.{startingIn};
+ghost use Rattle.replayer.specs.OpenOf.{startsOf, begunOf, refusedOpen};
 ghost use Rattle.replayer.specs.Run.{blankTasks};
 use crate::Opened;
 use crate::Run;
 use crate::TaskRun;
 use reader::Span;
+use reader::entry::clip;
 use reader::head::set_starting;
 use reader::survey::Layout;
 
@@ -23,13 +23,13 @@ fn blank_tasks() -> [TaskRun; 16]
     [blank; 16]
 }
 
-// The first `tasks` tasks at the start of their bodies.
-pub(crate) fn starts(spans: [Span; 16], tasks: usize) -> [TaskRun; 16]
-    requires { ⌜ tasks ≤ 16 ⌝ }
+// The first `tasks` tasks at the start of their bodies; a run has 16.
+fn starts(spans: [Span; 16], tasks: usize) -> [TaskRun; 16]
     ensures { λ r. ⌜ r ≡ startsOf spans tasks ⌝ }
 {
     let mut runs = blank_tasks();
-    for t in 0..tasks {
+    let few = clip(tasks, 16);
+    for t in 0..few {
         let s = spans[t];
         let x = TaskRun {
             place: s.start,
@@ -42,11 +42,11 @@ pub(crate) fn starts(spans: [Span; 16], tasks: usize) -> [TaskRun; 16]
     runs
 }
 
-// The opening of bytes that were surveyed, with a memory of N entries.
-pub(crate) fn begin(bytes: &[u8], l: Layout, memory: &mut [u32]) -> Run
-    requires { ⌜ Opening (now bytes) (now memory) l ⌝ }
-    ensures { λ r. ⌜ r ≡ openOf (now (bytes .entry)) (now (memory .entry)) .answer .run ⌝ }
-    ensures { λ r. ⌜ now (memory .exit) ≡ openOf (now (bytes .entry)) (now (memory .entry)) .memory ⌝ }
+// The run at the start of a layout, and the memory set. For a layout that a survey of the bytes accepts, and a memory of N entries, this
+// is the opening.
+pub fn begin(bytes: &[u8], l: Layout, memory: &mut [u32]) -> Run
+    ensures { λ r. ⌜ r ≡ begunOf l ⌝ }
+    ensures { λ r. ⌜ now (memory .exit) ≡ startingIn (now (bytes .entry)) (now (memory .entry)) ⌝ }
 {
     set_starting(bytes, memory);
     let spans = l.spans;

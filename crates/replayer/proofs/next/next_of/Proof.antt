@@ -19,7 +19,7 @@ look-at-requires c κs = search needs
 
 returns : tie.Need-returns
 returns c = let a = c .before .before .before .before .before .args in
-    look-next (a .t1) (now (a .bytes)) (a .task) _ _ _ (record { task = refl; limits = refl; counts = sym (c .before .before .dones-of .ensures) }) _ (c .look-at .ensures)
+    look-next (a .t1) (now (a .bytes)) (a .task) _ _ _ (record { task = refl; limits = refl; counts = sym (c .before .before .dones-of .ensures) }) _ (c .look-at .ensures .looks)
 
 pub next-of-spec : {M : Type 1} → statement M
 next-of-spec =

@@ -1,6 +1,4 @@
-use mathlib.Core.Path.{ap, _∙_}
 use borrow.Author.Needs.{needs}
-use Rattle.replayer.specs.declared.Opened.{Opened}
 use Rattle.replayer.proofs.start.begin.Statement.{statement}
 use Rattle.replayer.proofs.start.begin.Tie as tie
 
@@ -8,15 +6,13 @@ set-starting-requires : tie.Need-set-starting-requires
 set-starting-requires c κs = search needs
 
 starts-requires : tie.Need-starts-requires
-starts-requires c κs = c .before .before .before .before .before .before .before .pre .tasks
+starts-requires c κs = search needs
 
 same-length : tie.Need-same-length
 same-length c = c .before .before .before .before .set-starting .kept .1 .0
 
 returns : tie.Need-returns
-returns c =
-    let w = c .before .before .before .before .before .before .before .before .pre in
-    (rw (c .starts .ensures) (ap (λ (o : Opened). o .run) (w .answer)), c .before .before .before .before .set-starting .ensures ∙ w .values)
+returns c = (rw (c .starts .ensures), c .before .before .before .before .set-starting .ensures)
 
 pub begin-spec : {M : Type 1} → statement M
 begin-spec = tie.close (tie.spec set-starting-requires starts-requires same-length returns)

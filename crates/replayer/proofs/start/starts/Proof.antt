@@ -4,22 +4,25 @@ use Prim.Native.Nat.{_-_, _≤_}
 use borrow.Author.Needs.{needs}
 use native.Mathlib.Nat.{le-antisymm}
 use Rattle.replayer.specs.OpenOf.{startsOf}
-use Rattle.replayer.specs.OpenTurn.{starts-none, starts-more}
+use Rattle.replayer.specs.OpenTurn.{starts-none, starts-more, starts-clipped}
 use Rattle.replayer.proofs.start.starts.Statement.{statement}
 use Rattle.replayer.proofs.start.starts.Tie as tie
 
 abbrev Inv-loop : tie.InvT-loop
-Inv-loop tasks spans runs₀ t₀ runs t =
-    (t ≤ tasks) × (runs ≡ startsOf spans t)
+Inv-loop tasks spans runs₀ few t₀ runs t =
+    (t ≤ few) × (few ≤ 16) × (runs ≡ startsOf spans t)
 
 abbrev μ-loop : tie.MeasureT-loop
-μ-loop tasks spans runs₀ t₀ runs t = tasks - t
+μ-loop tasks spans runs₀ few t₀ runs t = few - t
 
 blank-tasks-requires : tie.Need-blank-tasks-requires Inv-loop μ-loop
 blank-tasks-requires c κs = search needs
 
+clip-requires : tie.Need-clip-requires Inv-loop μ-loop
+clip-requires c κs = search needs
+
 loop-holds : tie.Need-loop-holds Inv-loop μ-loop
-loop-holds c = (omega arith, c .blank-tasks .ensures ∙ sym (starts-none _))
+loop-holds c = (omega arith, omega (arith, c .clip .ensures), c .before .blank-tasks .ensures ∙ sym (starts-none _))
 
 mul-s : tie.Need-mul-s Inv-loop μ-loop
 mul-s c = search needs
@@ -40,10 +43,10 @@ loop-less : tie.Need-loop-less Inv-loop μ-loop
 loop-less c = search needs
 
 loop-again : tie.Need-loop-again Inv-loop μ-loop
-loop-again c = (omega arith, rw (starts-more, c .before .before .loop .inv .1))
+loop-again c = (omega arith, c .before .before .loop .inv .1, rw (starts-more, c .before .before .loop .inv .2))
 
 returns : tie.Need-returns Inv-loop μ-loop
-returns c = rw (le-antisymm (c .before .loop .inv .0) (c .loop-test .left)) at (c .before .loop .inv .1)
+returns c = (rw (le-antisymm (c .before .loop .inv .0) (c .loop-test .left), c .before .before .clip .ensures) at (c .before .loop .inv .2)) ∙ starts-clipped _ _
 
 pub starts-spec : {M : Type 1} → statement M
 starts-spec =
@@ -52,6 +55,7 @@ starts-spec =
     Inv-loop
     μ-loop
     blank-tasks-requires
+    clip-requires
     loop-holds
     mul-s
     array-copy-out-s

@@ -1,0 +1,104 @@
+use mathlib.Core.Path.{_≡_, ap, _∙_}
+use denote.Ref.{now}
+use borrow.Author.Needs.{needs}
+use Rattle.playback.specs.Alike.{Comparison}
+use Rattle.playback.specs.ToEnd.{playOf}
+use Rattle.playback.specs.AlikeTurn.{compares, first-away, second-away, first-entries, second-entries, both-play}
+use Rattle.playback.proofs.alike.same_outcome.Statement.{statement}
+use Rattle.playback.proofs.alike.same_outcome.Tie as tie
+
+-- an outcome that is known, in the three parts that are asked
+parts : {x y : Comparison} → x ≡ y → (x .answer ≡ y .answer) × ((x .first ≡ y .first) × (x .second ≡ y .second))
+parts e = (ap (λ (o : Comparison). o .answer) e, (ap (λ (o : Comparison). o .first) e, ap (λ (o : Comparison). o .second) e))
+
+survey-requires : tie.Need-survey-requires
+survey-requires c κs = search needs
+
+refused-requires : tie.Need-refused-requires
+refused-requires c κs = search needs
+
+returns : tie.Need-returns
+returns c =
+    let a = c .before .before .before .before .before .before .before .before .args in
+    let e = parts (first-away (now (a .first)) (now (a .second)) (now (a .first-memory)) (now (a .second-memory)) (c .before .before .before .survey .result) (c .before .before .before .survey .ensures) (c .before .if1 .taken)) in
+    (c .refused .ensures ∙ e .0, e .1)
+
+survey-requires-2 : tie.Need-survey-requires-2
+survey-requires-2 c κs = search needs
+
+refused-requires-2 : tie.Need-refused-requires-2
+refused-requires-2 c κs = search needs
+
+returns-2 : tie.Need-returns-2
+returns-2 c =
+    let a = c .before .before .before .before .before .before .before .before .before .before .before .args in
+    let e = parts (second-away (now (a .first)) (now (a .second)) (now (a .first-memory)) (now (a .second-memory)) (c .before .before .before .before .before .before .survey .result) (c .before .before .before .before .before .before .survey .ensures) (c .before .before .before .survey2 .result) (c .before .before .before .before .if1 .left) (c .before .before .before .survey2 .ensures) (c .before .if2 .taken)) in
+    (c .refused2 .ensures ∙ e .0, e .1)
+
+refused-requires-3 : tie.Need-refused-requires-3
+refused-requires-3 c κs = search needs
+
+returns-3 : tie.Need-returns-3
+returns-3 c =
+    let a = c .before .before .before .before .before .before .before .before .before .before .before .before .before .args in
+    let e = parts (first-entries (now (a .first)) (now (a .second)) (now (a .first-memory)) (now (a .second-memory)) (c .before .before .before .before .before .before .before .before .survey .result) (c .before .before .before .before .before .before .before .before .survey .ensures) (c .before .before .before .before .before .survey2 .result) (c .before .before .before .before .before .before .if1 .left) (c .before .before .before .before .before .survey2 .ensures) (c .before .before .before .if2 .left) (c .before .if3 .taken)) in
+    (c .refused3 .ensures ∙ e .0, e .1)
+
+refused-requires-4 : tie.Need-refused-requires-4
+refused-requires-4 c κs = search needs
+
+returns-4 : tie.Need-returns-4
+returns-4 c =
+    let a = c .before .before .before .before .before .before .before .before .before .before .before .before .before .before .before .args in
+    let e = parts (second-entries (now (a .first)) (now (a .second)) (now (a .first-memory)) (now (a .second-memory)) (c .before .before .before .before .before .before .before .before .before .before .survey .result) (c .before .before .before .before .before .before .before .before .before .before .survey .ensures) (c .before .before .before .before .before .before .before .survey2 .result) (c .before .before .before .before .before .before .before .before .if1 .left) (c .before .before .before .before .before .before .before .survey2 .ensures) (c .before .before .before .before .before .if2 .left) (c .before .before .before .if3 .left) (c .before .if4 .taken)) in
+    (c .refused4 .ensures ∙ e .0, e .1)
+
+play-requires : tie.Need-play-requires
+play-requires c κs = (c .before .before .before .before .before .before .before .before .before .before .survey .ensures, c .before .before .before .before .before .before .before .before .if1 .left, c .before .before .before .if3 .left)
+
+play-requires-2 : tie.Need-play-requires-2
+play-requires-2 c κs = (c .before .before .before .before .before .before .before .before .before .before .before .survey2 .ensures, c .before .before .before .before .before .before .before .before .before .if2 .left, c .before .before .before .before .before .if4 .left)
+
+same-entries-requires : tie.Need-same-entries-requires
+same-entries-requires c κs = search needs
+
+alike-requires : tie.Need-alike-requires
+alike-requires c κs = search needs
+
+same-length : tie.Need-same-length
+same-length c = c .before .before .before .before .before .before .before .before .before .before .play .kept .1 .1 .0
+
+same-length-2 : tie.Need-same-length-2
+same-length-2 c = c .before .before .before .before .before .before .play2 .kept .1 .1 .0
+
+returns-5 : tie.Need-returns-5
+returns-5 c =
+    let a = c .before .before .before .before .before .before .before .before .before .before .before .before .before .before .before .before .before .before .before .before .before .before .before .before .before .before .args in
+    let x = c .before .before .before .before .before .before .before .before .before .before .play in
+    let y = c .before .before .before .before .before .before .play2 in
+    let s = c .before .same-entries in
+    parts (compares (playOf (now (a .first)) (now (a .first-memory))) (playOf (now (a .second)) (now (a .second-memory))) (x .result) (y .result) (x .last .1 .1 .0) (y .last .1 .1 .0) (s .result) (c .alike .result)
+    (x .ensures .0) (y .ensures .0) (x .ensures .1) (y .ensures .1) (s .ensures) (c .alike .ensures)
+    ∙ both-play (now (a .first)) (now (a .second)) (now (a .first-memory)) (now (a .second-memory)) (c .before .before .before .before .before .before .before .before .before .before .before .before .before .before .before .before .before .before .before .before .before .survey .result) (c .before .before .before .before .before .before .before .before .before .before .before .before .before .before .before .before .before .before .before .before .before .survey .ensures) (c .before .before .before .before .before .before .before .before .before .before .before .before .before .before .before .before .before .before .survey2 .result) (c .before .before .before .before .before .before .before .before .before .before .before .before .before .before .before .before .before .before .before .if1 .left) (c .before .before .before .before .before .before .before .before .before .before .before .before .before .before .before .before .before .before .survey2 .ensures) (c .before .before .before .before .before .before .before .before .before .before .before .before .before .before .before .before .if2 .left) (c .before .before .before .before .before .before .before .before .before .before .before .before .before .before .if3 .left) (c .before .before .before .before .before .before .before .before .before .before .before .before .if4 .left))
+
+pub same-outcome-spec : {M : Type 1} → statement M
+same-outcome-spec =
+    tie.close
+    (tie.spec
+    survey-requires
+    refused-requires
+    returns
+    survey-requires-2
+    refused-requires-2
+    returns-2
+    refused-requires-3
+    returns-3
+    refused-requires-4
+    returns-4
+    play-requires
+    play-requires-2
+    same-entries-requires
+    alike-requires
+    same-length
+    same-length-2
+    returns-5)

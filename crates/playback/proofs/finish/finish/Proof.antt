@@ -1,0 +1,112 @@
+use mathlib.Core.Path.{_≡_, refl, sym, ap, _∙_}
+use native.Mathlib.Omega.{arith}
+use Prim.Native.Nat.{_+_}
+use lib.ListN.{length}
+use denote.Ref.{now}
+use Rattle.replayer.specs.declared.Run.{Run}
+use Rattle.playback.specs.Columns.{runOf}
+use Rattle.playback.specs.ColumnsLaws.{columns-back, columns-finished}
+use Rattle.playback.specs.ColumnsTurn.{Columned, columned-none}
+use Rattle.playback.specs.Finish.{Play, leftOver, finishedOf}
+use Rattle.playback.specs.FinishTurn.{Going, going-start, going-on, going-end}
+use Rattle.playback.specs.LowestLaws.{SteppedTo, found-next, found-none}
+use Rattle.playback.proofs.Else.{not-ready}
+use borrow.Author.Needs.{needs}
+use Rattle.playback.proofs.finish.finish.Statement.{statement}
+use Rattle.playback.proofs.finish.finish.Tie as tie
+
+abbrev Inv-loop : tie.InvT-loop
+Inv-loop run bytes memory₀ places₀ ends dones₀ counts scans₀ ats₀ steps₀ memory places dones scans ats steps =
+    Columned bytes (run .tasks) (run .objects) places ends dones counts scans ats × (length memory ≡ length memory₀)
+    × Going bytes (record { run = run; memory = memory₀; steps = 0 }) (record { run = runOf (run .tasks) (run .objects) places ends dones counts; memory = memory; steps = steps })
+
+abbrev μ-loop : tie.MeasureT-loop
+μ-loop run bytes memory₀ places₀ ends dones₀ counts scans₀ ats₀ steps₀ memory places dones scans ats steps =
+    leftOver (runOf (run .tasks) (run .objects) places ends dones counts)
+
+-- the play at first
+abbrev start : tie.Start Inv-loop μ-loop → Play
+start c = record { run = c .args .run; memory = now (c .args .memory); steps = 0 }
+
+-- the run at the loop's head, and after a task is found
+abbrev here : tie.At-loop Inv-loop μ-loop → Run
+here c = let k = c .before .before .before .before .before .columns-of .result in let r = c .before .before .before .before .before .before .before .before .args .run in runOf (r .tasks) (r .objects) (c .loop .places) (k .ends) (c .loop .dones) (k .counts)
+
+abbrev after : tie.After-lowest Inv-loop μ-loop → Run
+after c = let k = c .before .before .before .before .before .before .before .before .before .before .before .before .columns-of .result in let r = c .before .before .before .before .before .before .before .before .before .before .before .before .before .before .before .args .run in runOf (r .tasks) (r .objects) (c .lowest .last .1 .1 .1 .0) (k .ends) (c .lowest .last .1 .1 .1 .1 .1 .0) (k .counts)
+
+found : (c : tie.After-known-told Inv-loop μ-loop) →
+    let g = c .before .n .given .0 in
+    SteppedTo (here (c .before .before .before .before .before .before .before .before .before .before)) (now (c .before .before .before .before .before .before .before .before .before .before .before .before .before .before .before .before .before .before .args .bytes)) (g .0) (g .1 .0) (after (c .before .before .before))
+found c = let l = c .before .before .before .lowest .ensures in found-next _ _ (c .before .before .before .before .before .before .before .before .before .before .loop .inv .0 .sound) _ (after (c .before .before .before)) _ _ (l .0) (l .1 .0) (c .before .n .given .1)
+
+-- the play behind its step
+on : (c : tie.After-perform Inv-loop μ-loop) →
+    Going (now (c .before .before .before .before .before .before .before .before .before .before .before .before .before .before .before .before .before .before .before .before .args .bytes)) (start (c .before .before .before .before .before .before .before .before .before .before .before .before .before .before .before .before .before .before .before .before)) (record { run = after (c .before .before .before .before .before); memory = c .perform .last .1 .0; steps = c .before .before .before .before .before .before .before .before .before .before .before .before .loop .steps + 1 })
+on c = let f = found (c .before .before) in going-on _ _ _ (c .before .before .before .before .before .before .before .before .before .before .before .before .loop .inv .2) _ _ _ (f .is) _ _ (f .run) (c .perform .ensures .1)
+
+columns-of-requires : tie.Need-columns-of-requires Inv-loop μ-loop
+columns-of-requires c κs = search needs
+
+loop-holds : tie.Need-loop-holds Inv-loop μ-loop
+loop-holds c =
+    let r = c .before .before .before .before .before .before .before .args .run in
+    let p = c .before .before .before .before .before .before .before .pre .0 in
+    let k = c .before .before .before .before .columns-of in
+    (columned-none _ r _ (k .ensures) (p .shaped) (p .sound), refl, rw (columns-back r (k .result) (k .ensures) (p .shaped)) (going-start _ _ p refl))
+
+lowest-requires : tie.Need-lowest-requires Inv-loop μ-loop
+lowest-requires c κs = c .before .before .before .before .before .before .loop .inv .0
+
+enum-known-n : tie.Need-enum-known-n Inv-loop μ-loop
+enum-known-n c = search needs
+
+enum-told : tie.Need-enum-told Inv-loop μ-loop
+enum-told c = search needs
+
+all-done-requires : tie.Need-all-done-requires Inv-loop μ-loop
+all-done-requires c κs = search needs
+
+same-length : tie.Need-same-length Inv-loop μ-loop
+same-length c = c .before .before .before .before .before .before .before .before .before .before .before .before .loop .inv .1
+
+returns : tie.Need-returns Inv-loop μ-loop
+returns c =
+    let i = c .before .before .before .before .before .before .before .before .before .before .before .before .loop .inv in
+    let r = c .before .before .before .before .before .before .before .before .before .before .before .before .before .before .before .before .before .before .before .before .args .run in
+    let k = c .before .before .before .before .before .before .before .before .before .before .before .before .before .before .before .before .before .columns-of .result in
+    let l = c .before .before .before .before .before .lowest in
+    let n = found-none _ _ (i .0 .sound) _ (after (c .before .before .before .before .before)) (l .ensures .0) (l .ensures .1 .0) (not-ready _ (c .before .before .before .before .match .keys2)) in
+    let e = columns-finished (r .tasks) (r .objects) (l .last .1 .1 .1 .0) (k .ends) (l .last .1 .1 .1 .1 .1 .0) (k .counts) in
+    going-end _ _ _ (i .2) (n .0) _ (c .all-done .ensures ∙ sym e ∙ ap finishedOf {x = after (c .before .before .before .before .before)} (n .1))
+
+perform-requires : tie.Need-perform-requires Inv-loop μ-loop
+perform-requires c κs = search needs
+
+add-steps : tie.Need-add-steps Inv-loop μ-loop
+add-steps c = record { fits = omega (arith, on (c .before .before) .steps, c .before .before .before .before .before .before .before .before .before .before .before .before .before .before .before .before .before .before .before .before .before .before .pre .1) }
+
+loop-less : tie.Need-loop-less Inv-loop μ-loop
+loop-less c = omega (arith, on (c .before .before) .steps, c .before .before .before .before .before .before .before .before .before .before .before .before .before .before .loop .inv .2 .steps)
+
+loop-again : tie.Need-loop-again Inv-loop μ-loop
+loop-again c = (c .before .before .before .before .before .before .before .lowest .ensures .1 .1, c .before .memory .given ∙ c .before .before .before .before .before .before .before .before .before .before .before .before .before .before .loop .inv .1, on (c .before .before))
+
+pub finish-spec : {M : Type 1} → statement M
+finish-spec =
+    tie.close
+    (tie.spec
+    Inv-loop
+    μ-loop
+    columns-of-requires
+    loop-holds
+    lowest-requires
+    enum-known-n
+    enum-told
+    all-done-requires
+    same-length
+    returns
+    perform-requires
+    add-steps
+    loop-less
+    loop-again)

@@ -1,0 +1,72 @@
+-- Lowest ready task first, played to its end (document 01, "Replay"): while a task is ready the lowest of them is stepped. A run has
+-- finished if no task has accesses left; one that ends otherwise is stuck.
+use mathlib.Core.Bool.{Bool, false, cond, not}
+use mathlib.Core.List.{List}
+use Prim.Native.Nat.{ℕ, zero, suc, _+_, _-_}
+use lib.Dec.{eqb, ltb}
+use lib.ListN.{length}
+use Rattle.replayer.specs.declared.TaskRun.{TaskRun}
+use Rattle.replayer.specs.declared.Run.{Run}
+use Rattle.codec.specs.Number.{unsound}
+use Rattle.playback.specs.declared.finish.Completion.{Completion}
+use Rattle.playback.specs.declared.finish.Played.{Played}
+use Rattle.replayer.specs.All.{allFrom}
+use Rattle.replayer.specs.ReadyOf.{hasLeft, readyOf}
+use Rattle.replayer.specs.Run.{taskAt}
+use Rattle.replayer.specs.Sound.{soundOf}
+use Rattle.replayer.specs.StepOf.{stepOf}
+use Rattle.replayer.specs.Word.{lowestReady}
+
+-- a run and its memory on the way, and the steps taken
+pub record Play : Type 0 where
+  pub run : Run
+  pub memory : List ℕ
+  pub steps : ℕ
+
+-- the ready word, and the task that it makes next
+abbrev pub wordAt : List ℕ → Play → ℕ
+wordAt b x = readyOf (x .run) b .word
+
+abbrev pub taskNext : List ℕ → Play → ℕ
+taskNext b x = lowestReady (wordAt b x)
+
+unfoldable pub onward : List ℕ → Play → Play
+onward b x = record {
+  run = stepOf (x .run) b (x .memory) (taskNext b x) .answer .run;
+  memory = stepOf (x .run) b (x .memory) (taskNext b x) .memory;
+  steps = x .steps + 1;
+}
+
+-- at most so many steps
+unfoldable pub playedOf : ℕ → List ℕ → Play → Play
+playedOf zero b x = x
+playedOf (suc fuel) b x = cond (eqb (wordAt b x) 0) x (playedOf fuel b (onward b x))
+
+-- the accesses left to the first n tasks, and to all: a step takes one away, so as many steps are enough
+unfoldable pub leftIn : List TaskRun → ℕ → ℕ
+leftIn runs zero = 0
+leftIn runs (suc n) = leftIn runs n + (taskAt runs n .count - taskAt runs n .done)
+
+abbrev pub leftOver : Run → ℕ
+leftOver r = leftIn (r .runs) (r .tasks)
+
+abbrev pub finishOf : List ℕ → Play → Play
+finishOf b x = playedOf (leftOver (x .run)) b x
+
+-- the tasks below T that a run has
+abbrev pub tasksIn : ℕ → ℕ
+tasksIn tasks = cond (ltb tasks 16) tasks 16
+
+abbrev pub isDone : Run → ℕ → Bool
+isDone r t = not (hasLeft r t)
+
+abbrev pub finishedOf : Run → Bool
+finishedOf r = allFrom (isDone r) 0 (tasksIn (r .tasks))
+
+-- what is answered of it; the memory is where it was lent
+abbrev pub shownPlay : Play → Played
+shownPlay x = record { tasks = x .run .tasks; objects = x .run .objects; steps = x .steps; finished = finishedOf (x .run) }
+
+-- what is answered of a run over these bytes: 17 where it is unsound (document 01, "Number table")
+unfoldable pub finishedCall : Run → List ℕ → Completion
+finishedCall r b = cond (soundOf r (length b)) (record { number = 0; finished = finishedOf r }) (record { number = unsound; finished = false })

@@ -1,0 +1,46 @@
+-- The order of "lowest ready task first" (document 01, "Replay"): the tasks that it steps, in turn, until no task is ready. An unsound run
+-- has no ready task.
+use mathlib.Core.Bool.{cond}
+use mathlib.Core.List.{List, [], _∷_}
+use Prim.Native.Nat.{ℕ, zero, suc, _+_}
+use lib.Dec.{eqb}
+use Rattle.replayer.specs.declared.Run.{Run}
+use Rattle.replayer.specs.declared.next.Next.{Next}
+use Rattle.replayer.specs.declared.next.Next.the-variants.{Open, Held, Refused}
+use Rattle.playback.specs.Finish.{Play, leftOver}
+use Rattle.replayer.specs.Next.{nextOf}
+use Rattle.replayer.specs.ReadyOf.{readyOf}
+use Rattle.replayer.specs.Run.{movedOf}
+use Rattle.replayer.specs.StepOf.{stepOf}
+use Rattle.replayer.specs.Word.{lowestReady}
+
+abbrev pub nextTask : List ℕ → Run → ℕ
+nextTask b r = lowestReady (readyOf r b .word)
+
+-- the run behind a task's next access
+unfoldable pub behindOf : Run → ℕ → Next → Run
+behindOf r t (Open op next) = movedOf r t next
+behindOf r t Held = r
+behindOf r t (Refused c) = r
+
+-- at most so many steps
+unfoldable pub scheduleFrom : ℕ → List ℕ → Run → List ℕ
+scheduleFrom zero b r = []
+scheduleFrom (suc fuel) b r =
+    cond (eqb (readyOf r b .word) 0) [] (nextTask b r ∷ scheduleFrom fuel b (behindOf r (nextTask b r) (nextOf r b (nextTask b r))))
+
+-- a step takes an access away, so as many steps as accesses are left are enough
+abbrev pub scheduleOf : List ℕ → Run → List ℕ
+scheduleOf b r = scheduleFrom (leftOver r) b r
+
+-- a play after a step of a task, and after a list of steps
+abbrev pub steppedBy : List ℕ → Play → ℕ → Play
+steppedBy b x t = record {
+  run = stepOf (x .run) b (x .memory) t .answer .run;
+  memory = stepOf (x .run) b (x .memory) t .memory;
+  steps = x .steps + 1;
+}
+
+unfoldable pub playedBy : List ℕ → Play → List ℕ → Play
+playedBy b x [] = x
+playedBy b x (t ∷ ts) = playedBy b (steppedBy b x t) ts

@@ -1,0 +1,30 @@
+-- A recording played to its end in one call: opened, then the lowest ready task first until none is ready (document 01, "Replay"). A
+-- refused opening gives its number and offset and leaves the memory; otherwise the memory is what the run ended or stuck with.
+use mathlib.Core.Bool.{false, cond}
+use mathlib.Core.List.{List}
+use Prim.Native.Nat.{ℕ}
+use lib.Dec.{eqb}
+use Rattle.playback.specs.declared.to_end.Replayed.{Replayed}
+use Rattle.playback.specs.Finish.{Play, finishOf, finishedOf}
+use Rattle.replayer.specs.OpenOf.{openOf}
+
+-- a recording played from its opening
+abbrev pub playOf : List ℕ → List ℕ → Play
+playOf b memory = finishOf b (record { run = openOf b memory .answer .run; memory = openOf b memory .memory; steps = 0 })
+
+-- the answer, and the memory after the call
+pub record EndOutcome : Type 0 where
+  pub answer : Replayed
+  pub memory : List ℕ
+
+abbrev pub refusedEnd : ℕ → ℕ → Replayed
+refusedEnd number offset = record { number = number; offset = offset; steps = 0; finished = false }
+
+-- what a play came to
+abbrev pub endedOf : Play → EndOutcome
+endedOf x = record { answer = record { number = 0; offset = 0; steps = x .steps; finished = finishedOf (x .run) }; memory = x .memory }
+
+unfoldable pub toEndOf : List ℕ → List ℕ → EndOutcome
+toEndOf b memory =
+    cond (eqb (openOf b memory .answer .number) 0) (endedOf (playOf b memory))
+    (record { answer = refusedEnd (openOf b memory .answer .number) (openOf b memory .answer .offset); memory = memory })

@@ -1,0 +1,95 @@
+// Whether two recordings are alike: both are played to their end, the lowest ready task first, and what they came to is compared.
+ghost use mathlib.Core.Path.{_≡_};
+ghost use Rattle.playback.specs.Alike.{refusedCompared, sameEntries, alikeOf, sameOutcomeOf};
+use crate::finish::Played;
+use crate::to_end::play;
+use codec::number::ENTRIES;
+use reader::survey::survey;
+
+pub struct Compared {
+    pub number: u32,
+    pub offset: usize,
+    pub alike: bool,
+}
+
+fn refused(number: u32, offset: usize) -> Compared
+    ensures { λ r. ⌜ r ≡ refusedCompared number offset ⌝ }
+{
+    Compared {
+        number,
+        offset,
+        alike: false,
+    }
+}
+
+// Whether two memories are equal.
+fn same_entries(first: &[u32], second: &[u32]) -> bool
+    ensures { λ r. ⌜ r ≡ sameEntries (now (first .entry)) (now (second .entry)) ⌝ }
+{
+    if first.len() != second.len() {
+        return false;
+    }
+    for i in 0..first.len() {
+        if first[i] != second[i] {
+            return false;
+        }
+    }
+    true
+}
+
+// Both have finished, with equal T, N and step count, and `memory` says whether their memories are equal.
+fn alike(x: Played, y: Played, memory: bool) -> bool
+    ensures { λ r. ⌜ r ≡ alikeOf x y memory ⌝ }
+{
+    if !x.finished {
+        return false;
+    }
+    if !y.finished {
+        return false;
+    }
+    if x.tasks != y.tasks {
+        return false;
+    }
+    if x.objects != y.objects {
+        return false;
+    }
+    if x.steps != y.steps {
+        return false;
+    }
+    memory
+}
+
+// Both byte strings and both lengths are tested before either memory is set.
+pub fn same_outcome(
+    first: &[u8],
+    second: &[u8],
+    first_memory: &mut [u32],
+    second_memory: &mut [u32],
+) -> Compared
+    ensures { λ r. ⌜ r ≡ sameOutcomeOf (now (first .entry)) (now (second .entry)) (now («first_memory» .entry)) (now («second_memory» .entry)) .answer ⌝ }
+    ensures { λ r. ⌜ now («first_memory» .exit) ≡ sameOutcomeOf (now (first .entry)) (now (second .entry)) (now («first_memory» .entry)) (now («second_memory» .entry)) .first ⌝ }
+    ensures { λ r. ⌜ now («second_memory» .exit) ≡ sameOutcomeOf (now (first .entry)) (now (second .entry)) (now («first_memory» .entry)) (now («second_memory» .entry)) .second ⌝ }
+{
+    let l = survey(first);
+    if l.number != 0 {
+        return refused(l.number, l.offset);
+    }
+    let k = survey(second);
+    if k.number != 0 {
+        return refused(k.number, k.offset);
+    }
+    if first_memory.len() != l.objects {
+        return refused(ENTRIES, 0);
+    }
+    if second_memory.len() != k.objects {
+        return refused(ENTRIES, 0);
+    }
+    let x = play(first, l, first_memory);
+    let y = play(second, k, second_memory);
+    let memory = same_entries(first_memory, second_memory);
+    Compared {
+        number: 0,
+        offset: 0,
+        alike: alike(x, y, memory),
+    }
+}

@@ -1,0 +1,110 @@
+// A run played on, the lowest ready task first, until no task is ready; and whether a run has finished.
+ghost use mathlib.Core.Path.{_≡_};
+ghost use Prim.Native.Nat.{_<_};
+ghost use Rattle.playback.specs.Columns.{allDoneOf};
+ghost use Rattle.playback.specs.Finish.{leftOver, finishOf, shownPlay, tasksIn, finishedCall};
+ghost use Rattle.playback.specs.FinishLaws.{Playing};
+use crate::columns::columns_of;
+use crate::lowest::NextStep;
+use crate::lowest::lowest;
+use codec::number::UNSOUND;
+use replayer::Run;
+use replayer::effect::perform;
+use replayer::sound::sound;
+
+// Whether a run has finished; 17 and no for one that is not sound.
+pub struct Completion {
+    pub number: u32,
+    pub finished: bool,
+}
+
+// What a play came to: T, N, the steps that it took, and whether it finished; one that did not is stuck.
+pub struct Played {
+    pub tasks: usize,
+    pub objects: usize,
+    pub steps: usize,
+    pub finished: bool,
+}
+
+// While a task is ready the lowest of them is stepped, and its access is done on the memory. Each step leaves one access fewer, so the
+// loop ends and the count of steps fits.
+pub(crate) fn finish(run: Run, bytes: &[u8], memory: &mut [u32]) -> Played
+    requires { ⌜ Playing (now bytes) (record { run = run; memory = now memory; steps = 0 }) ⌝ }
+    requires { ⌜ leftOver run < 18446744073709551616 ⌝ }
+    ensures { λ r. ⌜ r ≡ shownPlay (finishOf (now (bytes .entry)) (record { run = run; memory = now (memory .entry); steps = 0 })) ⌝ }
+    ensures { λ r. ⌜ now (memory .exit) ≡ finishOf (now (bytes .entry)) (record { run = run; memory = now (memory .entry); steps = 0 }) .memory ⌝ }
+{
+    let c = columns_of(run);
+    let mut places = c.places;
+    let ends = c.ends;
+    let mut dones = c.dones;
+    let counts = c.counts;
+    let mut scans = [0usize; 16];
+    let mut ats = [0usize; 16];
+    let mut steps: usize = 0;
+    loop {
+        let n = lowest(
+            run.tasks,
+            run.objects,
+            bytes,
+            &mut places,
+            &ends,
+            &mut dones,
+            &counts,
+            &mut scans,
+            &mut ats,
+        );
+        let NextStep::Ready { task: _, op } = n else {
+            return Played {
+                tasks: run.tasks,
+                objects: run.objects,
+                steps,
+                finished: all_done(run.tasks, &dones, &counts),
+            };
+        };
+        perform(op, memory);
+        steps += 1;
+    }
+}
+
+// The tasks below T that a run has; a run that is not sound may name more.
+fn tasks_in(tasks: usize) -> usize
+    ensures { λ r. ⌜ r ≡ tasksIn tasks ⌝ }
+{
+    if tasks < 16 {
+        return tasks;
+    }
+    16
+}
+
+// Whether no task has accesses left.
+fn all_done(tasks: usize, dones: &[usize; 16], counts: &[usize; 16]) -> bool
+    ensures { λ r. ⌜ r ≡ allDoneOf tasks (now (dones .entry)) (now (counts .entry)) ⌝ }
+{
+    let few = tasks_in(tasks);
+    for t in 0..few {
+        if dones[t] < counts[t] {
+            return false;
+        }
+    }
+    true
+}
+
+// Whether a run over these bytes has finished.
+pub fn finished(run: Run, bytes: &[u8]) -> Completion
+    ensures { λ r. ⌜ r ≡ finishedCall run (now (bytes .entry)) ⌝ }
+{
+    if !sound(run, bytes.len()) {
+        return Completion {
+            number: UNSOUND,
+            finished: false,
+        };
+    }
+    let c = columns_of(run);
+    let dones = c.dones;
+    let counts = c.counts;
+    Completion {
+        number: 0,
+        finished: all_done(run.tasks, &dones, &counts),
+    }
+}

@@ -1,0 +1,57 @@
+// The lowest ready task of a run that columns hold: every play asks for it, and its task goes on.
+ghost use mathlib.Core.Path.{_≡_};
+ghost use Rattle.playback.specs.Columns.{runOf};
+ghost use Rattle.playback.specs.ColumnsTurn.{Columned};
+ghost use Rattle.playback.specs.Lowest.{lowestOf, afterOf};
+use crate::visit::visit;
+use codec::Op;
+use reader::Limits;
+use replayer::TaskRun;
+use replayer::next::Next;
+
+// The lowest ready task and its next access; or no task is ready.
+pub(crate) enum NextStep {
+    Ready { task: usize, op: Op },
+    Stopped,
+}
+
+// Visits the tasks from 0 on until one is open: it goes on to the place behind its access, with one more done. What is learnt of the
+// tasks that are held is kept in the notes.
+pub(crate) fn lowest(
+    tasks: usize,
+    objects: usize,
+    bytes: &[u8],
+    places: &mut [usize; 16],
+    ends: &[usize; 16],
+    dones: &mut [usize; 16],
+    counts: &[usize; 16],
+    scans: &mut [usize; 16],
+    ats: &mut [usize; 16],
+) -> NextStep
+    requires { ⌜ Columned (now bytes) tasks objects (now places) (now ends) (now dones) (now counts) (now scans) (now ats) ⌝ }
+    ensures { λ r. ⌜ r ≡ lowestOf (runOf tasks objects (now (places .entry)) (now (ends .entry)) (now (dones .entry)) (now (counts .entry))) (now (bytes .entry)) ⌝ }
+    ensures { λ r. ⌜ runOf tasks objects (now (places .exit)) (now (ends .entry)) (now (dones .exit)) (now (counts .entry))
+        ≡ afterOf (runOf tasks objects (now (places .entry)) (now (ends .entry)) (now (dones .entry)) (now (counts .entry))) (now (bytes .entry)) ⌝ }
+    ensures { λ r. ⌜ Columned (now (bytes .entry)) tasks objects (now (places .exit)) (now (ends .entry)) (now (dones .exit)) (now (counts .entry)) (now (scans .exit)) (now (ats .exit)) ⌝ }
+{
+    for t in 0..tasks {
+        let x = TaskRun {
+            place: places[t],
+            end: ends[t],
+            done: dones[t],
+            count: counts[t],
+        };
+        let limits = Limits {
+            tasks,
+            objects,
+            own: t,
+        };
+        let n = visit(x, bytes, limits, dones, scans, ats);
+        if let Next::Open { op, next } = n {
+            places[t] = next;
+            dones[t] = x.done + 1;
+            return NextStep::Ready { task: t, op };
+        }
+    }
+    NextStep::Stopped
+}

@@ -1,0 +1,47 @@
+// The order in which "lowest ready task first" steps the tasks.
+ghost use mathlib.Core.Path.{_≡_};
+ghost use lib.ListN.{length};
+ghost use Rattle.codec.specs.Store.{store};
+ghost use Rattle.playback.specs.Schedule.{scheduleFrom};
+use crate::columns::columns_of;
+use crate::lowest::NextStep;
+use crate::lowest::lowest;
+use replayer::Run;
+use replayer::sound::sound;
+
+// Writes the tasks from the start of the buffer, a byte a step, until no task is ready or the buffer is full, and answers how many.
+pub fn schedule(run: Run, bytes: &[u8], out: &mut [u8]) -> usize
+    ensures { λ r. ⌜ r ≡ length (scheduleFrom (length (now (out .entry))) (now (bytes .entry)) run) ⌝ }
+    ensures { λ r. ⌜ now (out .exit) ≡ store (now (out .entry)) 0 (scheduleFrom (length (now (out .entry))) (now (bytes .entry)) run) ⌝ }
+{
+    if !sound(run, bytes.len()) {
+        return 0;
+    }
+    let c = columns_of(run);
+    let mut places = c.places;
+    let ends = c.ends;
+    let mut dones = c.dones;
+    let counts = c.counts;
+    let mut scans = [0usize; 16];
+    let mut ats = [0usize; 16];
+    let mut steps: usize = 0;
+    while steps < out.len() {
+        let n = lowest(
+            run.tasks,
+            run.objects,
+            bytes,
+            &mut places,
+            &ends,
+            &mut dones,
+            &counts,
+            &mut scans,
+            &mut ats,
+        );
+        let NextStep::Ready { task, op: _ } = n else {
+            return steps;
+        };
+        out[steps] = task as u8;
+        steps += 1;
+    }
+    steps
+}

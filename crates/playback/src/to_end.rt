@@ -1,0 +1,63 @@
+// A recording played to its end in one call: opened, then the lowest ready task first until none is ready.
+ghost use mathlib.Core.Path.{_≡_};
+ghost use lib.ListN.{length};
+ghost use Rattle.reader.specs.Layout.{layoutOf};
+ghost use Rattle.reader.specs.Parse.{parse};
+ghost use Rattle.playback.specs.Finish.{shownPlay};
+ghost use Rattle.playback.specs.ToEnd.{playOf, refusedEnd, toEndOf};
+use crate::finish::Played;
+use crate::finish::finish;
+use codec::number::ENTRIES;
+use reader::survey::Layout;
+use reader::survey::survey;
+use replayer::start::begin;
+
+// A run that has not finished is stuck.
+pub struct Replayed {
+    pub number: u32,
+    pub offset: usize,
+    pub steps: usize,
+    pub finished: bool,
+}
+
+fn refused(number: u32, offset: usize) -> Replayed
+    ensures { λ r. ⌜ r ≡ refusedEnd number offset ⌝ }
+{
+    Replayed {
+        number,
+        offset,
+        steps: 0,
+        finished: false,
+    }
+}
+
+// A surveyed recording from its opening to where it ends or sticks.
+pub(crate) fn play(bytes: &[u8], l: Layout, memory: &mut [u32]) -> Played
+    requires { ⌜ (l ≡ layoutOf (parse (now bytes))) × (l .number ≡ 0) × (length (now memory) ≡ l .objects) ⌝ }
+    ensures { λ r. ⌜ r ≡ shownPlay (playOf (now (bytes .entry)) (now (memory .entry))) ⌝ }
+    ensures { λ r. ⌜ now (memory .exit) ≡ playOf (now (bytes .entry)) (now (memory .entry)) .memory ⌝ }
+{
+    let run = begin(bytes, l, memory);
+    finish(run, bytes, memory)
+}
+
+// A refusal is that of opening, and leaves the memory.
+pub fn replay_to_end(bytes: &[u8], memory: &mut [u32]) -> Replayed
+    ensures { λ r. ⌜ r ≡ toEndOf (now (bytes .entry)) (now (memory .entry)) .answer ⌝ }
+    ensures { λ r. ⌜ now (memory .exit) ≡ toEndOf (now (bytes .entry)) (now (memory .entry)) .memory ⌝ }
+{
+    let l = survey(bytes);
+    if l.number != 0 {
+        return refused(l.number, l.offset);
+    }
+    if memory.len() != l.objects {
+        return refused(ENTRIES, 0);
+    }
+    let p = play(bytes, l, memory);
+    Replayed {
+        number: 0,
+        offset: 0,
+        steps: p.steps,
+        finished: p.finished,
+    }
+}

@@ -1,0 +1,48 @@
+// A task looked at on the way to the lowest that is ready. Of one that an ordering holds it is noted how far its entry is judged, so that
+// no ordering is read again once it is met.
+ghost use Prim.Native.Nat.{_≤_, _<_};
+ghost use lib.ListN.{length, getD};
+ghost use Rattle.replayer.specs.declared.Run.{Run};
+ghost use Rattle.replayer.specs.Look.{OneTask};
+ghost use Rattle.playback.specs.Visit.{Note, Noted, Visited};
+use reader::Limits;
+use replayer::TaskRun;
+use replayer::next::Next;
+use replayer::next::first_unmet;
+use replayer::next::look_at;
+
+// What stands next for a task, held where it has no accesses left. The note of a task is the place of the access's record, and the place
+// of the first ordering before it that was not met. A step leads past that record, and so it ends the note.
+pub(crate) fn visit(
+    x: TaskRun,
+    bytes: &[u8],
+    limits: Limits,
+    dones: &[usize; 16],
+    scans: &mut [usize; 16],
+    ats: &mut [usize; 16],
+) -> Next
+    requires { ⌜ (limits .tasks ≤ 16) × (limits .own < 16) × (x .end ≤ length (now bytes)) ⌝ }
+    requires { ⌜ Note limits (now bytes) (now dones) x (getD (now scans) (limits .own) 0) (getD (now ats) (limits .own) 0) ⌝ }
+    ensures { λ r. ⌜ ((run : Run) → OneTask run (limits .own) x limits (now (dones .entry))
+        → Noted run (now (bytes .entry)) (now (scans .entry)) (now (ats .entry))
+        → Visited run (now (bytes .entry)) (limits .own) (now (scans .exit)) (now (ats .exit)) r) ⌝ }
+{
+    if x.count <= x.done {
+        return Next::Held;
+    }
+    let own = limits.own;
+    let noted = ats[own];
+    if x.place < noted {
+        let scan = first_unmet(bytes, scans[own], noted, dones);
+        scans[own] = scan;
+        if scan < noted {
+            return Next::Held;
+        }
+        let rest = look_at(bytes, scan, x.end, limits, dones);
+        return rest.next;
+    }
+    let k = look_at(bytes, x.place, x.end, limits, dones);
+    scans[own] = k.scan;
+    ats[own] = k.at;
+    k.next
+}
