@@ -6,10 +6,4 @@ pub mod LogTurn
 pub mod OpenOf
 pub mod OpenTurn
 pub mod Orders
-pub mod SectionOf
-pub mod SectionTurn
-pub mod PackOf
-pub mod PackTurn
-pub mod SectionBySection
-pub mod PackSections
 pub mod WholeRun
