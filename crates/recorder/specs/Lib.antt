@@ -2,8 +2,6 @@ pub mod Accepted
 pub mod AccessOf
 pub mod AccessTurn
 pub mod Full
-pub mod LogTurn
 pub mod OpenOf
 pub mod OpenTurn
-pub mod Orders
 pub mod WholeRun
