@@ -15,7 +15,7 @@ use Rattle.reader.specs.Reading.{read}
 use Rattle.reader.specs.Roundtrip.{parse-back, spansOf}
 use Rattle.history.specs.Memory.{reference}
 use Rattle.tracker.specs.Tracks.{tracks-sound, tracks-tasks, tracks-memory}
-use Rattle.recorder.specs.SectionOf.{sectionOf}
+use Rattle.sections.specs.SectionOf.{sectionOf}
 use Rattle.fidelity.specs.Box.{Opening, openedBy, Asked, lastBox, recorded, recordingOf, recordingBy}
 use Rattle.fidelity.specs.FirstBox.{startOf, opening-facts, owners-under, opening-is, follows-last}
 use Rattle.fidelity.specs.Follows.{Follows}

@@ -22,8 +22,8 @@ use Rattle.tracker.specs.declared.State.{State}
 use Rattle.tracker.specs.Facts.{Sound, sound-test}
 use Rattle.tracker.specs.State.{doneOf}
 use Rattle.tracker.specs.Tracks.{tracks-done, tracks-invariant}
-use Rattle.recorder.specs.SectionOf.{limitsOf, logChecked, sectionChecked, sectionBytes, sectionOf}
-use Rattle.recorder.specs.SectionTurn.{section-facts}
+use Rattle.sections.specs.SectionOf.{limitsOf, logChecked, sectionChecked, sectionBytes, sectionOf}
+use Rattle.sections.specs.SectionTurn.{section-facts}
 use Rattle.recorder.specs.WholeRun.{Box, packed}
 use Rattle.fidelity.specs.Filed.{filedOf, bodiesFrom, filed-count}
 use Rattle.fidelity.specs.Follows.{limits, Follows}

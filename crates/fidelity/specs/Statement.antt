@@ -16,7 +16,7 @@ use Rattle.history.specs.Access.{Access}
 use Rattle.history.specs.Memory.{memoryOf}
 use Rattle.history.specs.Ready.{Ready}
 use Rattle.history.specs.Replay.{recordedOrder}
-use Rattle.recorder.specs.SectionOf.{sectionOf}
+use Rattle.sections.specs.SectionOf.{sectionOf}
 use Rattle.replayer.specs.declared.Stepped.{Stepped}
 use Rattle.replayer.specs.OpenOf.{openOf}
 use Rattle.replayer.specs.ReadyOf.{readyOf}

@@ -8,8 +8,8 @@ use mir.Val.{boolByte}
 use Rattle.reader.specs.declared.Checked.{Checked}
 use Rattle.recorder.specs.declared.Opened.{Opened}
 use Rattle.recorder.specs.declared.Accessed.{Accessed}
-use Rattle.recorder.specs.declared.Sectioned.{Sectioned}
-use Rattle.recorder.specs.declared.pack.Packed.{Packed}
+use Rattle.sections.specs.declared.Sectioned.{Sectioned}
+use Rattle.sections.specs.declared.pack.Packed.{Packed}
 use Rattle.replayer.specs.declared.Opened.{Opened as ReplayOpened}
 use Rattle.replayer.specs.declared.ReadyWord.{ReadyWord}
 use Rattle.playback.specs.declared.finish.Completion.{Completion}

@@ -12,7 +12,7 @@ ghost use Rattle.reader.specs.Calls.{checkedOf, bodyChecked};
 ghost use Rattle.reader.specs.Parse.{parse};
 ghost use Rattle.recorder.specs.AccessOf.{accessOf};
 ghost use Rattle.recorder.specs.OpenOf.{openOf};
-ghost use Rattle.recorder.specs.SectionOf.{sectionOf};
+ghost use Rattle.sections.specs.SectionOf.{sectionOf};
 ghost use Rattle.replayer.specs.OpenOf.{openOf as replayOf};
 ghost use Rattle.replayer.specs.ReadyOf.{readyOf};
 ghost use Rattle.playback.specs.Finish.{finishedCall};
@@ -105,7 +105,7 @@ pub extern "C" fn wk_section(
     ensures { λ _. ⌜ now (out .exit) ≡ sectionOf (stateIn (now (halves .entry)) (now (words .entry))) task (now (log .entry)) (now (out .entry)) .out ⌝ }
 {
     let state = state_of(halves, words);
-    let r = recorder::section(state, task, log, out);
+    let r = sections::section(state, task, log, out);
     answer[0] = r.number as usize;
     answer[1] = r.offset;
     answer[2] = r.written;

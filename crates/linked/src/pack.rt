@@ -1,11 +1,11 @@
 // The sections of a whole recording in one call.
 ghost use mathlib.Core.Path.{_≡_};
 ghost use Rattle.codec.specs.Store.{store};
-ghost use Rattle.recorder.specs.PackOf.{packOf};
+ghost use Rattle.sections.specs.PackOf.{packOf};
 ghost use Rattle.linked.specs.Answers.{packNumbers};
 ghost use Rattle.linked.specs.Halves.{stateIn};
 use crate::layout::state_of;
-use recorder::pack::pack;
+use sections::pack::pack;
 
 // `ends` says where in `logs` each task's log ends. The answer is number, task, offset in the task's log, and bytes written.
 #[no_mangle]

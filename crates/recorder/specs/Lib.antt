@@ -2,14 +2,6 @@ pub mod Accepted
 pub mod AccessOf
 pub mod AccessTurn
 pub mod Full
-pub mod LogTurn
 pub mod OpenOf
 pub mod OpenTurn
-pub mod Orders
-pub mod SectionOf
-pub mod SectionTurn
-pub mod PackOf
-pub mod PackTurn
-pub mod SectionBySection
-pub mod PackSections
 pub mod WholeRun

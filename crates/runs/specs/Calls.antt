@@ -25,7 +25,7 @@ use Rattle.tracker.specs.Sound.{lastSound, taskSound, tasksSound, objectSound, 
 use Rattle.tracker.specs.Sum.{sumOf}
 use Rattle.recorder.specs.AccessOf.{checked, accessNumber, accepted, refused, accessOf}
 use Rattle.recorder.specs.OpenOf.{entriesOk, openNumber, OpenOutcome, opened, openOf}
-use Rattle.recorder.specs.SectionOf.{logChecked, sectionChecked, sectionOf}
+use Rattle.sections.specs.SectionOf.{logChecked, sectionChecked, sectionOf}
 use Rattle.recorder.specs.WholeRun.{Call, Box, outcome, called, calledAll, packed}
 
 -- an opening of two objects owned by task 0, with starting values 0 and output enough

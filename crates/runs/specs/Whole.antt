@@ -16,7 +16,7 @@ use Rattle.reader.specs.Part.{part}
 use Rattle.reader.specs.Section.{sectionsOf, sectionAt, onSection, sectionBody, taken}
 use Rattle.recorder.specs.AccessOf.{accessOf, accessNumber, checked, accepted, refused}
 use Rattle.recorder.specs.OpenOf.{openOf, opened, openNumber, entriesOk}
-use Rattle.recorder.specs.SectionOf.{sectionOf, sectionChecked, logChecked}
+use Rattle.sections.specs.SectionOf.{sectionOf, sectionChecked, logChecked}
 use Rattle.recorder.specs.WholeRun.{Call, outcome, called, calledAll, packed}
 use Rattle.replayer.specs.All.{allFrom}
 use Rattle.replayer.specs.Met.{allMet}
