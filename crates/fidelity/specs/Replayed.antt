@@ -51,7 +51,7 @@ act-of : {r s : Reply} → some r ≡ some s → r .act ≡ s .act
 act-of q = cc
 
 tasks-in : (tasks : ℕ) → tasksIn tasks ≤ tasks
-tasks-in tasks = elim (split (ltb tasks 16)) [ passes p ↦ rw p (omega arith) | fails p ↦ rw p (omega (arith, ltb-false tasks 16 p)) ]
+tasks-in tasks = omega arith
 
 -- a step that is not taken leaves all as it was
 pub refused-changes-nothing : (bytes : List ℕ) (b : Bench) (t : ℕ) → takesBy bytes b t ≡ false → stepped bytes b t ≡ b

@@ -2,11 +2,12 @@
 -- finished if no task has accesses left; one that ends otherwise is stuck.
 use mathlib.Core.Bool.{Bool, false, cond, not}
 use mathlib.Core.List.{List}
-use Prim.Native.Nat.{ℕ, zero, suc, _+_, _-_}
+use Prim.Native.Nat.{ℕ, zero, suc, _+_, _-_, min}
 use lib.Dec.{eqb, ltb}
 use lib.ListN.{length}
 use Rattle.replayer.specs.declared.TaskRun.{TaskRun}
 use Rattle.replayer.specs.declared.Run.{Run}
+use Rattle.codec.specs.Limit.{maxTasks}
 use Rattle.codec.specs.Number.{unsound}
 use Rattle.playback.specs.declared.finish.Completion.{Completion}
 use Rattle.playback.specs.declared.finish.Played.{Played}
@@ -55,7 +56,7 @@ finishOf b x = playedOf (leftOver (x .run)) b x
 
 -- the tasks below T that a run has
 abbrev pub tasksIn : ℕ → ℕ
-tasksIn tasks = cond (ltb tasks 16) tasks 16
+tasksIn tasks = min tasks maxTasks
 
 abbrev pub isDone : Run → ℕ → Bool
 isDone r t = not (hasLeft r t)

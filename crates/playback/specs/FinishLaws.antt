@@ -112,4 +112,4 @@ pub finish-ends : (b : List ℕ) (x : Play) → Playing b x → wordAt b (finish
 finish-ends b x w = ends (leftOver (x .run)) b x w (omega arith)
 
 pub tasks-few : (tasks : ℕ) → tasksIn tasks ≤ 16
-tasks-few tasks = elim (split (ltb tasks 16)) [ passes p ↦ rw p (omega (arith, ltb-true tasks 16 p)) | fails p ↦ rw p (omega arith) ]
+tasks-few tasks = omega arith

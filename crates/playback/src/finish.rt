@@ -2,11 +2,13 @@
 ghost use mathlib.Core.Path.{_≡_};
 ghost use Prim.Native.Nat.{_<_};
 ghost use Rattle.playback.specs.Columns.{allDoneOf};
-ghost use Rattle.playback.specs.Finish.{leftOver, finishOf, shownPlay, tasksIn, finishedCall};
+ghost use Rattle.playback.specs.Finish.{leftOver, finishOf, shownPlay, finishedCall};
 ghost use Rattle.playback.specs.FinishLaws.{Playing};
 use crate::columns::columns_of;
 use crate::lowest::NextStep;
 use crate::lowest::lowest;
+use codec::limit::TASKS;
+use codec::limit::least;
 use codec::number::UNSOUND;
 use replayer::Run;
 use replayer::effect::perform;
@@ -67,21 +69,11 @@ pub(crate) fn finish(run: Run, bytes: &[u8], memory: &mut [u32]) -> Played
     }
 }
 
-// The tasks below T that a run has; a run that is not sound may name more.
-fn tasks_in(tasks: usize) -> usize
-    ensures { λ r. ⌜ r ≡ tasksIn tasks ⌝ }
-{
-    if tasks < 16 {
-        return tasks;
-    }
-    16
-}
-
 // Whether no task has accesses left.
 fn all_done(tasks: usize, dones: &[usize; 16], counts: &[usize; 16]) -> bool
     ensures { λ r. ⌜ r ≡ allDoneOf tasks (now (dones .entry)) (now (counts .entry)) ⌝ }
 {
-    let few = tasks_in(tasks);
+    let few = least(tasks, TASKS);
     for t in 0..few {
         if dones[t] < counts[t] {
             return false;

@@ -6,14 +6,11 @@ use Prim.Native.Nat.{ℕ, _≤_, _<_}
 use lib.Dec.{leb}
 use borrow.Author.Tests.{leb-true, le-leb}
 use Rattle.codec.specs.Decide.{both-pass}
+use Rattle.codec.specs.Limit.{maxTasks, maxObjects, isWithin, within-facts, within-test}
 use Rattle.replayer.specs.declared.TaskRun.{TaskRun}
 use Rattle.replayer.specs.declared.Run.{Run}
 use Rattle.replayer.specs.All.{allFrom, all-facts, all-test}
 use Rattle.replayer.specs.Run.{taskAt}
-
--- 1 to high
-unfoldable pub within : ℕ → ℕ → Bool
-within high n = leb 1 n && leb n high
 
 -- of a task, over so many bytes
 unfoldable pub taskSound : ℕ → TaskRun → Bool
@@ -23,7 +20,7 @@ abbrev pub taskSoundAt : Run → ℕ → ℕ → Bool
 taskSoundAt r size t = taskSound size (taskAt (r .runs) t)
 
 unfoldable pub soundOf : Run → ℕ → Bool
-soundOf r size = within 16 (r .tasks) && (within 256 (r .objects) && allFrom (taskSoundAt r size) 0 (r .tasks))
+soundOf r size = isWithin 1 maxTasks (r .tasks) && (isWithin 1 maxObjects (r .objects) && allFrom (taskSoundAt r size) 0 (r .tasks))
 
 -- soundness as facts
 pub record SoundTask (size : ℕ) (x : TaskRun) : Type 0 where
@@ -37,14 +34,6 @@ pub record Sound (r : Run) (size : ℕ) : Type 0 where
   pub some-objects : 1 ≤ r .objects
   pub few-objects : r .objects ≤ 256
   pub task : (t : ℕ) → t < r .tasks → SoundTask size (taskAt (r .runs) t)
-
-pub within-facts : (high n : ℕ) → within high n ≡ true → (1 ≤ n) × (n ≤ high)
-unfolding within
-within-facts high n p = let q = both-pass (leb 1 n) _ p in (leb-true 1 n (q .0), leb-true n high (q .1))
-
-within-test : (high n : ℕ) → 1 ≤ n → n ≤ high → within high n ≡ true
-unfolding within
-within-test high n p q = rw (le-leb 1 n p, le-leb n high q)
 
 task-facts : (size : ℕ) (x : TaskRun) → taskSound size x ≡ true → SoundTask size x
 unfolding taskSound
@@ -60,10 +49,10 @@ task-test size x w = rw (le-leb (x .done) (x .count) (w .done), le-leb (x .place
 pub sound-facts : (r : Run) (size : ℕ) → soundOf r size ≡ true → Sound r size
 unfolding soundOf
 sound-facts r size p =
-    let q = both-pass (within 16 (r .tasks)) _ p in
-    let s = both-pass (within 256 (r .objects)) _ (q .1) in
-    let t = within-facts 16 (r .tasks) (q .0) in
-    let n = within-facts 256 (r .objects) (s .0) in
+    let q = both-pass (isWithin 1 maxTasks (r .tasks)) _ p in
+    let s = both-pass (isWithin 1 maxObjects (r .objects)) _ (q .1) in
+    let t = within-facts 1 maxTasks (r .tasks) (q .0) in
+    let n = within-facts 1 maxObjects (r .objects) (s .0) in
     record {
       some-tasks = t .0;
       few-tasks = t .1;
@@ -75,6 +64,6 @@ sound-facts r size p =
 pub sound-test : (r : Run) (size : ℕ) → Sound r size → soundOf r size ≡ true
 unfolding soundOf
 sound-test r size w = rw (
-  within-test 16 (r .tasks) (w .some-tasks) (w .few-tasks),
-  within-test 256 (r .objects) (w .some-objects) (w .few-objects),
+  within-test 1 maxTasks (r .tasks) (w .some-tasks) (w .few-tasks),
+  within-test 1 maxObjects (r .objects) (w .some-objects) (w .few-objects),
 ) (all-test (taskSoundAt r size) (r .tasks) (λ k h. task-test size (taskAt (r .runs) k) (w .task k h)))

@@ -1,18 +1,11 @@
 // The soundness test of a run: one pass over the tasks below T.
 ghost use mathlib.Core.Path.{_≡_};
-ghost use Rattle.replayer.specs.Sound.{within, taskSound, soundOf};
+ghost use Rattle.replayer.specs.Sound.{taskSound, soundOf};
 use crate::Run;
 use crate::TaskRun;
-
-// `n` is 1 to `high`.
-fn in_range(high: usize, n: usize) -> bool
-    ensures { λ r. ⌜ r ≡ within high n ⌝ }
-{
-    if n < 1 {
-        return false;
-    }
-    n <= high
-}
+use codec::limit::OBJECTS;
+use codec::limit::TASKS;
+use codec::limit::within;
 
 // Done at most the section's count, the place at most the end, the end within the bytes.
 fn task_sound(x: TaskRun, size: usize) -> bool
@@ -32,10 +25,10 @@ pub fn sound(run: Run, size: usize) -> bool
     ensures { λ r. ⌜ r ≡ soundOf run size ⌝ }
 {
     let tasks = run.tasks;
-    if !in_range(16, tasks) {
+    if !within(1, TASKS, tasks) {
         return false;
     }
-    if !in_range(256, run.objects) {
+    if !within(1, OBJECTS, run.objects) {
         return false;
     }
     for t in 0..tasks {

@@ -6,8 +6,9 @@ ghost use Rattle.replayer.specs.Run.{blankTasks};
 use crate::Opened;
 use crate::Run;
 use crate::TaskRun;
+use codec::limit::TASKS;
+use codec::limit::least;
 use reader::Span;
-use reader::entry::clip;
 use reader::head::set_starting;
 use reader::survey::Layout;
 
@@ -28,7 +29,7 @@ fn starts(spans: [Span; 16], tasks: usize) -> [TaskRun; 16]
     ensures { λ r. ⌜ r ≡ startsOf spans tasks ⌝ }
 {
     let mut runs = blank_tasks();
-    let few = clip(tasks, 16);
+    let few = least(tasks, TASKS);
     for t in 0..few {
         let s = spans[t];
         let x = TaskRun {

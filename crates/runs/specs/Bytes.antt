@@ -4,6 +4,7 @@ use mathlib.Core.List.{[], _∷_, _++_}
 use lib.ListN.{length, take}
 use Rattle.codec.specs.declared.Op.the-variants.{Read}
 use Rattle.codec.specs.Decode.{recordOf, headOf, sectionOf, bodyOf as fieldsOf}
+use Rattle.codec.specs.Limit.{isWithin}
 use Rattle.codec.specs.Encode.{start, startTwo, cell, cells, head, section, ordering, access}
 use Rattle.codec.specs.Field.{le2, le4, field2, field4}
 use Rattle.reader.specs.Reading.{stop}
@@ -32,5 +33,5 @@ pub record Bytes : Type 0 where
   pub from-zero : checkedOf (parse (bytesOf zeroth)) ≡ stop 13 25
 
 pub bytes : Bytes
-unfolding checkedOf parse headAt onHead sectionsAfter sectionsOf sectionAt onSection sectionBody taken bodyEntries bodyFrom entryOf entryFrom onRecord accessOf accessOk orderingOk ownersOf valuesOf allBelow sizesOk recordOf headOf sectionOf fieldsOf start startTwo cell cells head section ordering access le2 le4 field2 field4 orderingsBytes entryBytes bodyBytes sectionsBytes bytesOf
+unfolding isWithin checkedOf parse headAt onHead sectionsAfter sectionsOf sectionAt onSection sectionBody taken bodyEntries bodyFrom entryOf entryFrom onRecord accessOf accessOk orderingOk ownersOf valuesOf allBelow sizesOk recordOf headOf sectionOf fieldsOf start startTwo cell cells head section ordering access le2 le4 field2 field4 orderingsBytes entryBytes bodyBytes sectionsBytes bytesOf
 bytes = record { none = refl; size = refl; whole = refl; cut = refl; longer = refl; from-zero = refl }

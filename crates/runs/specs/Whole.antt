@@ -24,7 +24,7 @@ use Rattle.replayer.specs.Next.{entryNext, judged as judged-replayer-next, next
 use Rattle.replayer.specs.OpenOf.{startsOf, onParse, openOf as openOf-replayer-openof}
 use Rattle.replayer.specs.ReadyOf.{isReady, readyOf}
 use Rattle.replayer.specs.Run.{movedOf}
-use Rattle.replayer.specs.Sound.{within, taskSound as taskSound-replayer-sound, soundOf as soundOf-replayer-sound}
+use Rattle.replayer.specs.Sound.{taskSound as taskSound-replayer-sound, soundOf as soundOf-replayer-sound}
 use Rattle.replayer.specs.StepOf.{barredOf, onNext, stepOf}
 use Rattle.replayer.specs.Word.{wordOf}
 use Rattle.tracker.specs.Class.{classOf}
@@ -72,5 +72,5 @@ pub record Whole : Type 0 where
   pub end-taken : tallySteps bytes (bench []) (0 ∷ 1 ∷ 0 ∷ 1 ∷ []) ≡ 4
 
 pub whole : Whole
-unfolding openOf opened openNumber entriesOk allBelow openedState ownedRecords outcome called calledAll packed accessOf accessNumber checked accepted refused soundOf lastSound taskSound tasksSound objectSound sumOf isWithin allBelow-tracker-range rowOf orderingsOf everyDone written leftOut nextOf localityAfter effectOf classOf store orderingsBytes entryBytes ordering access start startTwo le2 le4 head cell cells section sectionOf sectionChecked logChecked walkOf judged tally bodyEntries bodyFrom entryOf entryFrom onRecord accessOf-reader-entry accessOk orderingOk recordOf headOf sectionOf-codec-decode bodyOf-codec-decode field2 field4 checkedOf parse headAt onHead sectionsAfter sectionsOf sectionAt onSection sectionBody taken ownersOf valuesOf sizesOk bodyBytes sectionsBytes bytesOf part allFrom within taskSound-replayer-sound soundOf-replayer-sound allMet movedOf entryNext judged-replayer-next nextOf-replayer-next wordOf isReady readyOf startsOf onParse openOf-replayer-openof barredOf onNext stepOf recordedFrom steppedAll tallySteps
+unfolding openOf opened openNumber entriesOk allBelow openedState ownedRecords outcome called calledAll packed accessOf accessNumber checked accepted refused soundOf lastSound taskSound tasksSound objectSound sumOf isWithin allBelow-tracker-range rowOf orderingsOf everyDone written leftOut nextOf localityAfter effectOf classOf store orderingsBytes entryBytes ordering access start startTwo le2 le4 head cell cells section sectionOf sectionChecked logChecked walkOf judged tally bodyEntries bodyFrom entryOf entryFrom onRecord accessOf-reader-entry accessOk orderingOk recordOf headOf sectionOf-codec-decode bodyOf-codec-decode field2 field4 checkedOf parse headAt onHead sectionsAfter sectionsOf sectionAt onSection sectionBody taken ownersOf valuesOf sizesOk bodyBytes sectionsBytes bytesOf part allFrom taskSound-replayer-sound soundOf-replayer-sound allMet movedOf entryNext judged-replayer-next nextOf-replayer-next wordOf isReady readyOf startsOf onParse openOf-replayer-openof barredOf onNext stepOf recordedFrom steppedAll tallySteps
 whole = record { size = refl; first-word = refl; second-word = refl; held = refl; end-word = refl; end-memory = refl; end-taken = refl }

@@ -18,13 +18,13 @@ abbrev μ-loop : tie.MeasureT-loop
 μ-loop tasks dones counts few t₀ t = few - t
 
 below : (c : tie.In-loop Inv-loop μ-loop) → c .before .loop .t < 16
-below c = omega (arith, c .loop-test .taken, c .before .before .tasks-in .ensures, tasks-few (c .before .before .before .args .tasks))
+below c = omega (arith, c .loop-test .taken, c .before .before .least .ensures, tasks-few (c .before .before .before .args .tasks))
 
-tasks-in-requires : tie.Need-tasks-in-requires Inv-loop μ-loop
-tasks-in-requires c κs = search needs
+least-requires : tie.Need-least-requires Inv-loop μ-loop
+least-requires c κs = search needs
 
 loop-holds : tie.Need-loop-holds Inv-loop μ-loop
-loop-holds c = let o : tasksIn (c .before .args .tasks) - 0 ≡ tasksIn (c .before .args .tasks) = omega arith in (omega arith, rw (c .tasks-in .ensures, o))
+loop-holds c = let o : tasksIn (c .before .args .tasks) - 0 ≡ tasksIn (c .before .args .tasks) = omega arith in (omega arith, rw (c .least .ensures, o))
 
 mul-if1 : tie.Need-mul-if1 Inv-loop μ-loop
 mul-if1 c = omega (arith, below c)
@@ -42,7 +42,7 @@ returns : tie.Need-returns Inv-loop μ-loop
 returns c =
     let a = c .before .before .before .before .before .before .args in
     let l = c .before .before .before .before .loop in
-    sym (all-off (doneBy (now (a .dones)) (now (a .counts))) (l .t) (c .before .before .before .before .before .tasks-in .result) (c .before .before .before .loop-test .taken) (rw (lt-ltb _ _ (c .if1 .taken)))) ∙ l .inv .1
+    sym (all-off (doneBy (now (a .dones)) (now (a .counts))) (l .t) (c .before .before .before .before .before .least .result) (c .before .before .before .loop-test .taken) (rw (lt-ltb _ _ (c .if1 .taken)))) ∙ l .inv .1
 
 add-t : tie.Need-add-t Inv-loop μ-loop
 add-t c = search needs
@@ -55,14 +55,14 @@ loop-again c =
     let a = c .before .before .before .before .before .before .args in
     let l = c .before .before .before .before .loop in (
       omega arith,
-      sym (all-on (doneBy (now (a .dones)) (now (a .counts))) (l .t) (c .before .before .before .before .before .tasks-in .result) (c .before .before .before .loop-test .taken) (rw (le-ltb _ _ (c .if1 .left)))) ∙ l .inv .1,
+      sym (all-on (doneBy (now (a .dones)) (now (a .counts))) (l .t) (c .before .before .before .before .before .least .result) (c .before .before .before .loop-test .taken) (rw (le-ltb _ _ (c .if1 .left)))) ∙ l .inv .1,
     )
 
 returns-2 : tie.Need-returns-2 Inv-loop μ-loop
 returns-2 c =
     let a = c .before .before .before .args in
     let l = c .before .loop in
-    sym (all-end (doneBy (now (a .dones)) (now (a .counts))) (l .t) (c .before .before .tasks-in .result) (c .loop-test .left)) ∙ l .inv .1
+    sym (all-end (doneBy (now (a .dones)) (now (a .counts))) (l .t) (c .before .before .least .result) (c .loop-test .left)) ∙ l .inv .1
 
 pub all-done-spec : {M : Type 1} → statement M
 all-done-spec =
@@ -70,7 +70,7 @@ all-done-spec =
     (tie.spec
     Inv-loop
     μ-loop
-    tasks-in-requires
+    least-requires
     loop-holds
     mul-if1
     element-copy-out-if1

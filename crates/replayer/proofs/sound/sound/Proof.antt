@@ -3,7 +3,8 @@ use native.Mathlib.Omega.{arith}
 use Prim.Native.Nat.{_-_, _≤_, _<_}
 use borrow.Author.Needs.{needs}
 use mathlib.Core.Bool.{true}
-use Rattle.replayer.specs.Sound.{within, within-facts, taskSoundAt, soundOf}
+use Rattle.codec.specs.Limit.{maxTasks, maxObjects, isWithin, within-facts}
+use Rattle.replayer.specs.Sound.{taskSoundAt, soundOf}
 use borrow.Author.Tests.{not-true, not-false}
 use Rattle.replayer.specs.All.{allFrom, all-on, all-off, all-end}
 use Rattle.replayer.proofs.sound.sound.Statement.{statement}
@@ -17,28 +18,28 @@ abbrev μ-loop : tie.MeasureT-loop
 μ-loop size run tasks t₀ t = tasks - t
 
 -- T and N are in range
-tasks-so : (c : tie.Else1 Inv-loop μ-loop) → within 16 (c .before .before .args .t1 .tasks) ≡ true
-tasks-so c = sym (c .before .in-range .ensures) ∙ not-false _ (c .if1 .left)
+tasks-so : (c : tie.Else1 Inv-loop μ-loop) → isWithin 1 maxTasks (c .before .before .args .t1 .tasks) ≡ true
+tasks-so c = sym (c .before .within .ensures) ∙ not-false _ (c .if1 .left)
 
-objects-so : (c : tie.Else2 Inv-loop μ-loop) → within 256 (c .before .before .before .before .args .t1 .objects) ≡ true
-objects-so c = sym (c .before .in-range2 .ensures) ∙ not-false _ (c .if2 .left)
+objects-so : (c : tie.Else2 Inv-loop μ-loop) → isWithin 1 maxObjects (c .before .before .before .before .args .t1 .objects) ≡ true
+objects-so c = sym (c .before .within2 .ensures) ∙ not-false _ (c .if2 .left)
 
 few : (c : tie.In-loop Inv-loop μ-loop) → c .before .loop .t < 16
-few c = omega (arith, within-facts 16 (c .before .before .before .before .before .before .args .t1 .tasks) (tasks-so (c .before .before .before .before)) .1, c .loop-test .taken)
+few c = omega (arith, within-facts 1 maxTasks (c .before .before .before .before .before .before .args .t1 .tasks) (tasks-so (c .before .before .before .before)) .1, c .loop-test .taken)
 
-in-range-requires : tie.Need-in-range-requires Inv-loop μ-loop
-in-range-requires c κs = search needs
+within-requires : tie.Need-within-requires Inv-loop μ-loop
+within-requires c κs = search needs
 
 returns : tie.Need-returns Inv-loop μ-loop
 unfolding soundOf
-returns c = rw (sym (c .before .in-range .ensures) ∙ not-true _ (c .if1 .taken))
+returns c = rw (sym (c .before .within .ensures) ∙ not-true _ (c .if1 .taken))
 
-in-range-requires-2 : tie.Need-in-range-requires-2 Inv-loop μ-loop
-in-range-requires-2 c κs = search needs
+within-requires-2 : tie.Need-within-requires-2 Inv-loop μ-loop
+within-requires-2 c κs = search needs
 
 returns-2 : tie.Need-returns-2 Inv-loop μ-loop
 unfolding soundOf
-returns-2 c = rw (tasks-so (c .before .before), sym (c .before .in-range2 .ensures) ∙ not-true _ (c .if2 .taken))
+returns-2 c = rw (tasks-so (c .before .before), sym (c .before .within2 .ensures) ∙ not-true _ (c .if2 .taken))
 
 loop-holds : tie.Need-loop-holds Inv-loop μ-loop
 loop-holds c = let o : c .before .before .before .before .args .t1 .tasks - 0 ≡ c .before .before .before .before .args .t1 .tasks = omega arith in (omega arith, rw o)
@@ -83,9 +84,9 @@ sound-spec =
     (tie.spec
     Inv-loop
     μ-loop
-    in-range-requires
+    within-requires
     returns
-    in-range-requires-2
+    within-requires-2
     returns-2
     loop-holds
     mul-x

@@ -18,11 +18,11 @@ abbrev μ-loop : tie.MeasureT-loop
 blank-tasks-requires : tie.Need-blank-tasks-requires Inv-loop μ-loop
 blank-tasks-requires c κs = search needs
 
-clip-requires : tie.Need-clip-requires Inv-loop μ-loop
-clip-requires c κs = search needs
+least-requires : tie.Need-least-requires Inv-loop μ-loop
+least-requires c κs = search needs
 
 loop-holds : tie.Need-loop-holds Inv-loop μ-loop
-loop-holds c = (omega arith, omega (arith, c .clip .ensures), c .before .blank-tasks .ensures ∙ sym (starts-none _))
+loop-holds c = (omega arith, omega (arith, c .least .ensures), c .before .blank-tasks .ensures ∙ sym (starts-none _))
 
 mul-s : tie.Need-mul-s Inv-loop μ-loop
 mul-s c = search needs
@@ -46,7 +46,7 @@ loop-again : tie.Need-loop-again Inv-loop μ-loop
 loop-again c = (omega arith, c .before .before .loop .inv .1, rw (starts-more, c .before .before .loop .inv .2))
 
 returns : tie.Need-returns Inv-loop μ-loop
-returns c = (rw (le-antisymm (c .before .loop .inv .0) (c .loop-test .left), c .before .before .clip .ensures) at (c .before .loop .inv .2)) ∙ starts-clipped _ _
+returns c = (rw (le-antisymm (c .before .loop .inv .0) (c .loop-test .left), c .before .before .least .ensures) at (c .before .loop .inv .2)) ∙ starts-clipped _ _
 
 pub starts-spec : {M : Type 1} → statement M
 starts-spec =
@@ -55,7 +55,7 @@ starts-spec =
     Inv-loop
     μ-loop
     blank-tasks-requires
-    clip-requires
+    least-requires
     loop-holds
     mul-s
     array-copy-out-s
