@@ -2,10 +2,10 @@ use mathlib.Core.Path.{refl}
 use Prim.Native.Nat.{_-_}
 use native.Mathlib.Omega.{arith}
 use Rattle.replayer.specs.Each.{Filled, filled-none, filled-more, filled-all}
-use Rattle.linked.specs.Halves.{recordIn}
+use Rattle.arrays.specs.Halves.{recordIn}
 use borrow.Author.Needs.{needs}
-use Rattle.linked.proofs.layout.records_of.Statement.{statement}
-use Rattle.linked.proofs.layout.records_of.Tie as tie
+use Rattle.arrays.proofs.records_of.Statement.{statement}
+use Rattle.arrays.proofs.records_of.Tie as tie
 
 abbrev Inv-loop : tie.InvT-loop
 Inv-loop halves words records₀ i₀ records i = Filled (recordIn halves words) 256 records i

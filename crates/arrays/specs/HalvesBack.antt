@@ -11,8 +11,8 @@ use Rattle.tracker.specs.declared.Locality.the-variants.{WriteExclusive, ReadEx
 use Rattle.tracker.specs.declared.State.{State}
 use Rattle.tracker.specs.State.{holderOf, shareOf, owned, Shaped}
 use Rattle.replayer.specs.Each.{each, each-length, each-at, each-of}
-use Rattle.linked.specs.Halves.{recordOf, recordIn, entriesIn, stateIn, caseOf, localityAt, halvesOf, wordsOf}
-use Rattle.linked.specs.Stores.{store-whole, behind}
+use Rattle.arrays.specs.Halves.{recordOf, recordIn, entriesIn, stateIn, caseOf, localityAt, halvesOf, wordsOf}
+use Rattle.arrays.specs.Stores.{store-whole, behind}
 
 record-back : (l : Locality) → recordOf (caseOf l) (holderOf l) (shareOf l) ≡ record { locality = l }
 unfolding recordOf

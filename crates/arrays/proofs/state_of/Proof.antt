@@ -1,6 +1,6 @@
 use borrow.Author.Needs.{needs}
-use Rattle.linked.proofs.layout.state_of.Statement.{statement}
-use Rattle.linked.proofs.layout.state_of.Tie as tie
+use Rattle.arrays.proofs.state_of.Statement.{statement}
+use Rattle.arrays.proofs.state_of.Tie as tie
 
 records-of-requires : tie.Need-records-of-requires
 records-of-requires c κs = search needs

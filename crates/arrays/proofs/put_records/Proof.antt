@@ -2,13 +2,13 @@ use mathlib.Core.Path.{_≡_}
 use native.Mathlib.Omega.{arith}
 use Rattle.codec.specs.Store.{store}
 use Rattle.tracker.specs.State.{holderOf}
-use Rattle.linked.specs.Halves.{caseOf, localityAt, sharesOf}
-use Rattle.linked.specs.HalvesTurn.{two, two-none, two-more, one-none}
-use Rattle.linked.specs.Stores.{store-more}
+use Rattle.arrays.specs.Halves.{caseOf, localityAt, sharesOf}
+use Rattle.arrays.specs.HalvesTurn.{two, two-none, two-more, one-none}
+use Rattle.arrays.specs.Stores.{store-more}
 use Prim.Native.Nat.{_≤_, _-_}
 use borrow.Author.Needs.{needs}
-use Rattle.linked.proofs.layout.put_records.Statement.{statement}
-use Rattle.linked.proofs.layout.put_records.Tie as tie
+use Rattle.arrays.proofs.put_records.Statement.{statement}
+use Rattle.arrays.proofs.put_records.Tie as tie
 
 abbrev Inv-loop : tie.InvT-loop
 Inv-loop halves₀ words₀ records i₀ halves words i =

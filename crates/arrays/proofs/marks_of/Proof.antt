@@ -4,8 +4,8 @@ use Prim.Native.Nat.{_+_, _-_}
 use lib.ListN.{getD}
 use Rattle.replayer.specs.Each.{Filled, filled-none, filled-more, filled-all}
 use borrow.Author.Needs.{needs}
-use Rattle.linked.proofs.layout.marks_of.Statement.{statement}
-use Rattle.linked.proofs.layout.marks_of.Tie as tie
+use Rattle.arrays.proofs.marks_of.Statement.{statement}
+use Rattle.arrays.proofs.marks_of.Tie as tie
 
 abbrev Inv-loop : tie.InvT-loop
 Inv-loop halves words done₀ seen₀ took₀ t₀ done seen took t = Filled (λ k. getD halves (4 + k) 0) 16 done t × Filled (λ k. getD words (1 + k) 0) 16 seen t × Filled (λ k. getD halves (20 + k) 0) 16 took t

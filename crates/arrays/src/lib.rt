@@ -7,8 +7,8 @@ ghost use mathlib.Core.Path.{_≡_};
 ghost use Rattle.codec.specs.Store.{store};
 ghost use Rattle.tracker.specs.Marks.{marksOf};
 ghost use Rattle.replayer.specs.Each.{each};
-ghost use Rattle.linked.specs.Halves.{recordOf, recordIn, stateIn, caseOf, casesOf, holdersOf, sharesOf, firstOf, halvesOf, wordsOf};
-ghost use Rattle.linked.specs.Places.{runIn, placesOf};
+ghost use Rattle.arrays.specs.Halves.{recordOf, recordIn, stateIn, caseOf, casesOf, holdersOf, sharesOf, firstOf, halvesOf, wordsOf};
+ghost use Rattle.arrays.specs.Places.{runIn, placesOf};
 use codec::Position;
 use replayer::Run;
 use replayer::TaskRun;
@@ -71,7 +71,7 @@ fn marks_of(halves: &[u16; 548], words: &[u32; 273]) -> Marks
     }
 }
 
-pub(crate) fn state_of(halves: &[u16; 548], words: &[u32; 273]) -> State
+pub fn state_of(halves: &[u16; 548], words: &[u32; 273]) -> State
     ensures { λ r. ⌜ r ≡ stateIn (now (halves .entry)) (now (words .entry)) ⌝ }
 {
     let records = records_of(halves, words);
@@ -132,7 +132,7 @@ fn put_tasks(
     }
 }
 
-pub(crate) fn put_state(state: State, halves: &mut [u16; 548], words: &mut [u32; 273])
+pub fn put_state(state: State, halves: &mut [u16; 548], words: &mut [u32; 273])
     ensures { λ _. ⌜ now (halves .exit) ≡ store (now (halves .entry)) 0 (halvesOf state) ⌝ }
     ensures { λ _. ⌜ now (words .exit) ≡ store (now (words .entry)) 0 (wordsOf state) ⌝ }
 {
@@ -150,7 +150,7 @@ pub(crate) fn put_state(state: State, halves: &mut [u16; 548], words: &mut [u32;
     words[0] = state.shares;
 }
 
-pub(crate) fn run_of(places: &[usize; 66]) -> Run
+pub fn run_of(places: &[usize; 66]) -> Run
     ensures { λ r. ⌜ r ≡ runIn (now (places .entry)) ⌝ }
 {
     let blank = TaskRun {
@@ -176,7 +176,7 @@ pub(crate) fn run_of(places: &[usize; 66]) -> Run
     }
 }
 
-pub(crate) fn put_run(run: Run, places: &mut [usize; 66])
+pub fn put_run(run: Run, places: &mut [usize; 66])
     ensures { λ _. ⌜ now (places .exit) ≡ store (now (places .entry)) 0 (placesOf run) ⌝ }
 {
     places[0] = run.tasks;

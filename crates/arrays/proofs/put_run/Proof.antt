@@ -2,11 +2,11 @@ use mathlib.Core.Path.{_≡_, _∙_}
 use Prim.Native.Nat.{_≤_, _-_}
 use native.Mathlib.Omega.{arith}
 use Rattle.codec.specs.Store.{store}
-use Rattle.linked.specs.Places.{firstPlaces}
-use Rattle.linked.specs.PlacesTurn.{places-none, places-more, places-all}
+use Rattle.arrays.specs.Places.{firstPlaces}
+use Rattle.arrays.specs.PlacesTurn.{places-none, places-more, places-all}
 use borrow.Author.Needs.{needs}
-use Rattle.linked.proofs.layout.put_run.Statement.{statement}
-use Rattle.linked.proofs.layout.put_run.Tie as tie
+use Rattle.arrays.proofs.put_run.Statement.{statement}
+use Rattle.arrays.proofs.put_run.Tie as tie
 
 abbrev Inv-loop : tie.InvT-loop
 Inv-loop places₀ run t₀ places t =

@@ -1,7 +1,7 @@
 use borrow.Author.Tests.{ne-eqb}
-use Rattle.linked.specs.Halves.{recordOf}
-use Rattle.linked.proofs.layout.record_of.Statement.{statement}
-use Rattle.linked.proofs.layout.record_of.Tie as tie
+use Rattle.arrays.specs.Halves.{recordOf}
+use Rattle.arrays.proofs.record_of.Statement.{statement}
+use Rattle.arrays.proofs.record_of.Tie as tie
 
 returns : tie.Need-returns
 unfolding recordOf

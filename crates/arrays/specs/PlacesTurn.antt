@@ -9,7 +9,7 @@ use Rattle.codec.specs.Store.{store, store-behind}
 use Rattle.replayer.specs.declared.TaskRun.{TaskRun}
 use Rattle.replayer.specs.declared.Run.{Run}
 use Rattle.replayer.specs.Run.{taskAt}
-use Rattle.linked.specs.Places.{taskPlaces, firstPlaces, placesOf}
+use Rattle.arrays.specs.Places.{taskPlaces, firstPlaces, placesOf}
 
 pub places-length : (runs : List TaskRun) (n : ℕ) → length (firstPlaces runs n) ≡ 4 * n
 unfolding firstPlaces

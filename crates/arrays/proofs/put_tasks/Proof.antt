@@ -2,13 +2,13 @@ use mathlib.Core.Path.{_≡_}
 use native.Mathlib.Omega.{arith}
 use lib.ListN.{getD}
 use Rattle.codec.specs.Store.{store}
-use Rattle.linked.specs.Halves.{firstOf}
-use Rattle.linked.specs.HalvesTurn.{two, two-none, two-more, one-none}
-use Rattle.linked.specs.Stores.{store-more}
+use Rattle.arrays.specs.Halves.{firstOf}
+use Rattle.arrays.specs.HalvesTurn.{two, two-none, two-more, one-none}
+use Rattle.arrays.specs.Stores.{store-more}
 use Prim.Native.Nat.{_≤_, _-_}
 use borrow.Author.Needs.{needs}
-use Rattle.linked.proofs.layout.put_tasks.Statement.{statement}
-use Rattle.linked.proofs.layout.put_tasks.Tie as tie
+use Rattle.arrays.proofs.put_tasks.Statement.{statement}
+use Rattle.arrays.proofs.put_tasks.Tie as tie
 
 abbrev Inv-loop : tie.InvT-loop
 Inv-loop halves₀ words₀ done seen took t₀ halves words t =

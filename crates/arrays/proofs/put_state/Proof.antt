@@ -1,8 +1,8 @@
 use Rattle.replayer.specs.Each.{each-length}
-use Rattle.linked.specs.HalvesTurn.{halves-all, words-all}
+use Rattle.arrays.specs.HalvesTurn.{halves-all, words-all}
 use borrow.Author.Needs.{needs}
-use Rattle.linked.proofs.layout.put_state.Statement.{statement}
-use Rattle.linked.proofs.layout.put_state.Tie as tie
+use Rattle.arrays.proofs.put_state.Statement.{statement}
+use Rattle.arrays.proofs.put_state.Tie as tie
 
 put-records-requires : tie.Need-put-records-requires
 put-records-requires c κs = search needs

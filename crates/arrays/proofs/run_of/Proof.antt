@@ -2,10 +2,10 @@ use mathlib.Core.Path.{refl}
 use Prim.Native.Nat.{_-_}
 use native.Mathlib.Omega.{arith}
 use Rattle.replayer.specs.Each.{Filled, filled-none, filled-more, filled-all}
-use Rattle.linked.specs.Places.{taskIn}
+use Rattle.arrays.specs.Places.{taskIn}
 use borrow.Author.Needs.{needs}
-use Rattle.linked.proofs.layout.run_of.Statement.{statement}
-use Rattle.linked.proofs.layout.run_of.Tie as tie
+use Rattle.arrays.proofs.run_of.Statement.{statement}
+use Rattle.arrays.proofs.run_of.Tie as tie
 
 abbrev Inv-loop : tie.InvT-loop
 Inv-loop places runs₀ t₀ runs t = Filled (taskIn places) 16 runs t

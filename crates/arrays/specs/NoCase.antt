@@ -13,7 +13,7 @@ use Rattle.tracker.specs.Scan.{scan-bad}
 use Rattle.tracker.specs.Sound.{objectSound, soundOf}
 use Rattle.tracker.specs.State.{owned}
 use Rattle.replayer.specs.Each.{each-at}
-use Rattle.linked.specs.Halves.{recordOf, recordIn, stateIn}
+use Rattle.arrays.specs.Halves.{recordOf, recordIn, stateIn}
 
 without-meaning : (case task share : ℕ) → 2 < case → recordOf case task share ≡ record { locality = ReadShared 0 }
 unfolding recordOf

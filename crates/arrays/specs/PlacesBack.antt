@@ -12,9 +12,9 @@ use Rattle.replayer.specs.declared.Run.{Run}
 use Rattle.replayer.specs.Moved.{Shaped}
 use Rattle.replayer.specs.Run.{taskAt, blankTask}
 use Rattle.replayer.specs.Each.{each-of}
-use Rattle.linked.specs.Places.{taskIn, runIn, taskPlaces, firstPlaces, placesOf}
-use Rattle.linked.specs.PlacesTurn.{places-length}
-use Rattle.linked.specs.Stores.{store-whole, behind}
+use Rattle.arrays.specs.Places.{taskIn, runIn, taskPlaces, firstPlaces, placesOf}
+use Rattle.arrays.specs.PlacesTurn.{places-length}
+use Rattle.arrays.specs.Stores.{store-whole, behind}
 
 places-at : (runs : List TaskRun) (n t k : ℕ) → t < n → k < 4 → getD (firstPlaces runs n) (4 * t + k) 0 ≡ getD (taskPlaces (taskAt runs t)) k 0
 unfolding firstPlaces

@@ -7,8 +7,8 @@ use borrow.Author.Tests.{eq-eqb, ne-eqb}
 use lib.ListN.{length, set, length-append}
 use Rattle.codec.specs.Store.{store, store-behind}
 use Rattle.replayer.specs.Each.{each}
-use Rattle.linked.specs.Halves.{movedTo}
-use Rattle.linked.specs.Stores.{store-set, store-swap, store-more}
+use Rattle.arrays.specs.Halves.{movedTo}
+use Rattle.arrays.specs.Stores.{store-set, store-swap, store-more}
 
 -- two parts of one list, entry by entry: the first n of each are stored
 abbrev pub two : List ℕ → ℕ → ℕ → (ℕ → ℕ) → (ℕ → ℕ) → ℕ → List ℕ
