@@ -1,11 +1,3 @@
 pub mod Answers
 pub mod CopyOf
 pub mod CopyLaws
-pub mod Halves
-pub mod HalvesBack
-pub mod HalvesTurn
-pub mod NoCase
-pub mod Places
-pub mod PlacesBack
-pub mod PlacesTurn
-pub mod Stores

@@ -3,5 +3,4 @@
 
 mod body;
 mod calls;
-mod layout;
 mod pack;

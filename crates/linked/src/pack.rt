@@ -3,8 +3,8 @@ ghost use mathlib.Core.Path.{_≡_};
 ghost use Rattle.codec.specs.Store.{store};
 ghost use Rattle.sections.specs.PackOf.{packOf};
 ghost use Rattle.linked.specs.Answers.{packNumbers};
-ghost use Rattle.linked.specs.Halves.{stateIn};
-use crate::layout::state_of;
+ghost use Rattle.arrays.specs.Halves.{stateIn};
+use arrays::state_of;
 use sections::pack::pack;
 
 // `ends` says where in `logs` each task's log ends. The answer is number, task, offset in the task's log, and bytes written.

@@ -10,7 +10,7 @@ use Rattle.history.specs.Entry.{Act, read, write, acquire, Entry}
 use Rattle.history.specs.History.{History}
 use Rattle.history.specs.Replay.{oneMore}
 use Rattle.fidelity.specs.Box.{Opening, Asked, recorded}
-use Rattle.script.specs.AccessLines.{accessLines}
+use Rattle.lines.specs.AccessLines.{accessLines}
 use Rattle.script.specs.RecordOf.{recordOf}
 use Rattle.text.specs.Decimal.{fieldOf}
 use Rattle.transcript.specs.Lines.{endOf, memoryOf}

@@ -3,7 +3,7 @@ use mathlib.Core.List.{List, [], _∷_}
 use Prim.Native.Nat.{ℕ, _+_, _≤_}
 use native.Mathlib.Omega.{arith}
 use Rattle.codec.specs.Decide.{passes, fails, split}
-use Rattle.script.specs.Lines.{Line, isPassed, numbered}
+use Rattle.lines.specs.Lines.{Line, isPassed, numbered}
 
 unfoldable pub Numbered : List Line → Type 0
 Numbered [] = Unit {0}

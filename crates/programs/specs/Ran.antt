@@ -20,9 +20,9 @@ use Rattle.fidelity.specs.FirstBox.{follows-last}
 use Rattle.codec.specs.Store.{store-front}
 use Rattle.programs.specs.Numbered.{Numbered}
 use Rattle.programs.specs.Wanted.{wantedIn, wantedBy}
-use Rattle.script.specs.Asked.{askedBy, askedOf, isNumber}
-use Rattle.script.specs.Fields.{fieldsOf}
-use Rattle.script.specs.Lines.{Line}
+use Rattle.lines.specs.Asked.{askedBy, askedOf, isNumber}
+use Rattle.lines.specs.Fields.{fieldsOf}
+use Rattle.lines.specs.Lines.{Line}
 use Rattle.script.specs.Room.{access-same}
 use Rattle.script.specs.Session.{Session, most, callOf, stoppedAt, asking, judged, fed, fedAll}
 

@@ -1,8 +1,8 @@
 -- The access that a line of a text wants, and the one that a call asks for.
 use Prim.Native.Nat.{ℕ}
-use Rattle.script.specs.Asked.{askedOf}
-use Rattle.script.specs.Fields.{fieldsOf}
-use Rattle.script.specs.Lines.{Line}
+use Rattle.lines.specs.Asked.{askedOf}
+use Rattle.lines.specs.Fields.{fieldsOf}
+use Rattle.lines.specs.Lines.{Line}
 use Rattle.recorder.specs.WholeRun.{Call}
 use Rattle.fidelity.specs.Box.{Asked}
 

@@ -7,7 +7,7 @@ use borrow.Author.Tests.{eqb-true, le-leb}
 use lib.Dec.{eqb, ltb}
 use lib.ListN.{length}
 use Rattle.codec.specs.Decide.{passes, fails, split}
-use Rattle.script.specs.AccessLines.{accessLines}
+use Rattle.lines.specs.AccessLines.{accessLines}
 use Rattle.script.specs.AnswerOf.{longest, streamsOf, messageRoom, answerOf}
 use Rattle.script.specs.Message.{longWord, messageOf}
 use Rattle.script.specs.RecordOf.{recordOf}

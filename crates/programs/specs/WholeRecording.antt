@@ -6,7 +6,7 @@ use lib.ListN.{length, replicate}
 use Rattle.recorder.specs.WholeRun.{Box}
 use Rattle.fidelity.specs.Box.{Opening, Asked, lastBox, recorded, recordingOf}
 use Rattle.fidelity.specs.Statement.{Accepted}
-use Rattle.script.specs.Lines.{Line}
+use Rattle.lines.specs.Lines.{Line}
 use Rattle.script.specs.Session.{most}
 use Rattle.programs.specs.Wanted.{wantedIn, wantedBy}
 

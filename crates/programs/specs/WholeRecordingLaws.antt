@@ -20,7 +20,7 @@ use Rattle.fidelity.specs.BoxMatches.{sections-accepted}
 use Rattle.fidelity.specs.Packed.{section-wrote}
 use Rattle.fidelity.specs.Theorem.{acceptance}
 use Rattle.codec.specs.Store.{store-front}
-use Rattle.script.specs.Lines.{Line}
+use Rattle.lines.specs.Lines.{Line}
 use Rattle.script.specs.Packed.{packed}
 use Rattle.script.specs.RecordOf.{longestHead, begun, finished, opening, withOpening}
 use Rattle.script.specs.Room.{opening-facts}

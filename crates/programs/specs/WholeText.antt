@@ -10,12 +10,12 @@ use lib.ListN.{length, drop}
 use Rattle.codec.specs.Decide.{passes, fails, split}
 use Rattle.reader.specs.Range.{AllUnder}
 use Rattle.reader.specs.Strict.{below-under}
-use Rattle.script.specs.AccessLines.{accessLines}
-use Rattle.script.specs.Fields.{fieldsOf}
-use Rattle.script.specs.Lines.{Line, linesOf, numbered}
+use Rattle.lines.specs.AccessLines.{accessLines}
+use Rattle.lines.specs.Fields.{fieldsOf}
+use Rattle.lines.specs.Lines.{Line, linesOf, numbered}
 use Rattle.script.specs.RecordOf.{Outcome, stopOf, begun, finished, opening, withOpening, withOwners, withSizes, rangeOf, withLines, recordOf}
-use Rattle.script.specs.RowTurn.{row-facts}
-use Rattle.script.specs.Rows.{isRow, sizesOf, ownersOf}
+use Rattle.lines.specs.RowTurn.{row-facts}
+use Rattle.lines.specs.Rows.{isRow, sizesOf, ownersOf}
 use Rattle.script.specs.Session.{fedAll}
 use Rattle.programs.specs.Numbered.{Numbered, numbered-from}
 use Rattle.programs.specs.WholeRecording.{WholeRecording}

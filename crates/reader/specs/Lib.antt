@@ -14,6 +14,7 @@ pub mod Joined
 pub mod Laid
 pub mod Layout
 pub mod Object
+pub mod OneByOne
 pub mod OrderingAt
 pub mod OrderingLaws
 pub mod Parse

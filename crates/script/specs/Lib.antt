@@ -1,15 +1,4 @@
-pub mod Number
-pub mod Found
 pub mod Front
-pub mod Words
-pub mod Fields
-pub mod FieldsTurn
-pub mod Lines
-pub mod AccessLines
-pub mod Asked
-pub mod Rows
-pub mod RowTurn
-pub mod AskedTurn
 pub mod Session
 pub mod Room
 pub mod Progress

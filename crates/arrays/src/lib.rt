@@ -1,0 +1,191 @@
+// The recorder's state and a replay's run as arrays of numbers, so that a caller can lend any state, sound or not.
+//
+// A state's halves are T, N, Last's task and number, Done and Took of each task, then for each object its case (0 write-held,
+// 1 read-held, 2 shared) and its task; its words are G, Seen of each task, and each object's share number.
+// A run's places are T and N, then for each task its place, end, done and count.
+ghost use mathlib.Core.Path.{_≡_};
+ghost use Rattle.codec.specs.Store.{store};
+ghost use Rattle.tracker.specs.Marks.{marksOf};
+ghost use Rattle.replayer.specs.Each.{each};
+ghost use Rattle.arrays.specs.Halves.{recordOf, recordIn, stateIn, caseOf, casesOf, holdersOf, sharesOf, firstOf, halvesOf, wordsOf};
+ghost use Rattle.arrays.specs.Places.{runIn, placesOf};
+use codec::Position;
+use replayer::Run;
+use replayer::TaskRun;
+use tracker::Locality;
+use tracker::Marks;
+use tracker::ObjectRecord;
+use tracker::State;
+use tracker::advance::holder_of;
+use tracker::advance::share_of;
+
+// A case above 2 means nothing. It is read as shared with share number 0, which is unsound, so each call on it answers 17.
+fn record_of(case: u16, task: u16, share: u32) -> ObjectRecord
+    ensures { λ r. ⌜ r ≡ recordOf case task share ⌝ }
+{
+    let locality = match case {
+        0 => Locality::WriteExclusive(task),
+        1 => Locality::ReadExclusive(task),
+        2 => Locality::ReadShared(share),
+        _ => Locality::ReadShared(0),
+    };
+    ObjectRecord { locality }
+}
+
+fn records_of(halves: &[u16; 548], words: &[u32; 273]) -> [ObjectRecord; 256]
+    ensures { λ r. ⌜ r ≡ each (recordIn (now (halves .entry)) (now (words .entry))) 256 ⌝ }
+{
+    let blank = record_of(0, 0, 0);
+    let mut records = [blank; 256];
+    for i in 0..256 {
+        let record = record_of(halves[36 + i], halves[292 + i], words[17 + i]);
+        records[i] = record;
+    }
+    records
+}
+
+// All of a state but its objects' records.
+fn marks_of(halves: &[u16; 548], words: &[u32; 273]) -> Marks
+    ensures { λ r. ⌜ r ≡ marksOf (stateIn (now (halves .entry)) (now (words .entry))) ⌝ }
+{
+    let mut done = [0u16; 16];
+    let mut seen = [0u32; 16];
+    let mut took = [0u16; 16];
+    for t in 0..16 {
+        done[t] = halves[4 + t];
+        seen[t] = words[1 + t];
+        took[t] = halves[20 + t];
+    }
+    let last = Position {
+        task: halves[2],
+        number: halves[3],
+    };
+    Marks {
+        tasks: halves[0],
+        objects: halves[1],
+        done,
+        seen,
+        took,
+        shares: words[0],
+        last,
+    }
+}
+
+pub fn state_of(halves: &[u16; 548], words: &[u32; 273]) -> State
+    ensures { λ r. ⌜ r ≡ stateIn (now (halves .entry)) (now (words .entry)) ⌝ }
+{
+    let records = records_of(halves, words);
+    let marks = marks_of(halves, words);
+    let done = marks.done;
+    let seen = marks.seen;
+    let took = marks.took;
+    let last = marks.last;
+    State {
+        tasks: marks.tasks,
+        objects: marks.objects,
+        records,
+        done,
+        seen,
+        took,
+        shares: marks.shares,
+        last,
+    }
+}
+
+fn case_of(locality: Locality) -> u16
+    ensures { λ r. ⌜ r ≡ caseOf locality ⌝ }
+{
+    match locality {
+        Locality::WriteExclusive(_) => 0,
+        Locality::ReadExclusive(_) => 1,
+        Locality::ReadShared(_) => 2,
+    }
+}
+
+fn put_records(records: [ObjectRecord; 256], halves: &mut [u16; 548], words: &mut [u32; 273])
+    ensures { λ _. ⌜ now (halves .exit) ≡ store (store (now (halves .entry)) 36 (casesOf records 256)) 292 (holdersOf records 256) ⌝ }
+    ensures { λ _. ⌜ now (words .exit) ≡ store (now (words .entry)) 17 (sharesOf records 256) ⌝ }
+{
+    for i in 0..256 {
+        let record = records[i];
+        let locality = record.locality;
+        halves[36 + i] = case_of(locality);
+        halves[292 + i] = holder_of(locality);
+        words[17 + i] = share_of(locality);
+    }
+}
+
+fn put_tasks(
+    done: [u16; 16],
+    seen: [u32; 16],
+    took: [u16; 16],
+    halves: &mut [u16; 548],
+    words: &mut [u32; 273],
+)
+    ensures { λ _. ⌜ now (halves .exit) ≡ store (store (now (halves .entry)) 4 (firstOf done 16)) 20 (firstOf took 16) ⌝ }
+    ensures { λ _. ⌜ now (words .exit) ≡ store (now (words .entry)) 1 (firstOf seen 16) ⌝ }
+{
+    for t in 0..16 {
+        halves[4 + t] = done[t];
+        words[1 + t] = seen[t];
+        halves[20 + t] = took[t];
+    }
+}
+
+pub fn put_state(state: State, halves: &mut [u16; 548], words: &mut [u32; 273])
+    ensures { λ _. ⌜ now (halves .exit) ≡ store (now (halves .entry)) 0 (halvesOf state) ⌝ }
+    ensures { λ _. ⌜ now (words .exit) ≡ store (now (words .entry)) 0 (wordsOf state) ⌝ }
+{
+    let records = state.records;
+    put_records(records, halves, words);
+    let done = state.done;
+    let seen = state.seen;
+    let took = state.took;
+    put_tasks(done, seen, took, halves, words);
+    let last = state.last;
+    halves[0] = state.tasks;
+    halves[1] = state.objects;
+    halves[2] = last.task;
+    halves[3] = last.number;
+    words[0] = state.shares;
+}
+
+pub fn run_of(places: &[usize; 66]) -> Run
+    ensures { λ r. ⌜ r ≡ runIn (now (places .entry)) ⌝ }
+{
+    let blank = TaskRun {
+        place: 0,
+        end: 0,
+        done: 0,
+        count: 0,
+    };
+    let mut runs = [blank; 16];
+    for t in 0..16 {
+        let x = TaskRun {
+            place: places[2 + 4 * t],
+            end: places[3 + 4 * t],
+            done: places[4 + 4 * t],
+            count: places[5 + 4 * t],
+        };
+        runs[t] = x;
+    }
+    Run {
+        tasks: places[0],
+        objects: places[1],
+        runs,
+    }
+}
+
+pub fn put_run(run: Run, places: &mut [usize; 66])
+    ensures { λ _. ⌜ now (places .exit) ≡ store (now (places .entry)) 0 (placesOf run) ⌝ }
+{
+    places[0] = run.tasks;
+    places[1] = run.objects;
+    for t in 0..16 {
+        let x = run.runs[t];
+        places[2 + 4 * t] = x.place;
+        places[3 + 4 * t] = x.end;
+        places[4 + 4 * t] = x.done;
+        places[5 + 4 * t] = x.count;
+    }
+}

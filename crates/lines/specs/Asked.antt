@@ -1,0 +1,28 @@
+-- A line of an access: `task R object` or `task W object value`.
+use mathlib.Core.Bool.{Bool, true, false, cond, _&&_}
+use mathlib.Core.List.{List}
+use Prim.Native.Nat.{ℕ}
+use lib.Dec.{eqb, ltb}
+use lib.ListN.{length, getD}
+use Rattle.lines.specs.declared.asked.Asked.{Asked}
+use Rattle.lines.specs.Fields.{readField, writeField}
+use Rattle.lines.specs.Number.{none}
+
+abbrev pub isNumber : ℕ → Bool
+isNumber f = ltb f none
+
+abbrev pub malformedLine : Asked
+malformedLine = record { good = false; task = 0; object = 0; sort = 0; value = 0 }
+
+-- an access whose letter is right or not; the numbers must be numbers
+unfoldable pub askedBy : Bool → ℕ → ℕ → ℕ → ℕ → Asked
+askedBy right t o v sort =
+    cond (right && (isNumber t && (isNumber o && isNumber v)))
+    (record { good = true; task = t; object = o; sort = sort; value = v })
+    malformedLine
+
+-- three fields or four; the sort is 0 for a read and 1 for a write
+unfoldable pub askedOf : List ℕ → Asked
+askedOf f =
+    cond (eqb (length f) 3) (askedBy (eqb (getD f 1 0) readField) (getD f 0 0) (getD f 2 0) 0 0)
+    (cond (eqb (length f) 4) (askedBy (eqb (getD f 1 0) writeField) (getD f 0 0) (getD f 2 0) (getD f 3 0) 1) malformedLine)

@@ -1,0 +1,11 @@
+pub mod Number
+pub mod Found
+pub mod Words
+pub mod Fields
+pub mod FieldsTurn
+pub mod Lines
+pub mod AccessLines
+pub mod Asked
+pub mod Rows
+pub mod RowTurn
+pub mod AskedTurn

@@ -1,0 +1,26 @@
+-- The first three lines of a text: T and N, N owners, N starting values.
+use mathlib.Core.Bool.{Bool, true, false, cond, _&&_}
+use mathlib.Core.List.{List, map}
+use Prim.Native.Nat.{ℕ, min}
+use lib.Dec.{eqb}
+use lib.ListN.{length, getD}
+use Rattle.reader.specs.Parse.{allBelow}
+use Rattle.lines.specs.declared.rows.Sizes.{Sizes}
+use Rattle.lines.specs.Number.{none}
+
+-- so many numbers
+unfoldable pub isRow : ℕ → List ℕ → Bool
+isRow n f = eqb (length f) n && allBelow none f
+
+unfoldable pub sizesOf : List ℕ → Sizes
+sizesOf f =
+    cond (isRow 2 f)
+    (record { good = true; tasks = getD f 0 0; objects = getD f 1 0 })
+    (record { good = false; tasks = 0; objects = 0 })
+
+-- an owner fits a byte; what does not is below no T
+abbrev pub ownerOf : ℕ → ℕ
+ownerOf f = min f 255
+
+abbrev pub ownersOf : List ℕ → List ℕ
+ownersOf f = map ownerOf f

@@ -1,0 +1,72 @@
+// What a line of the text asks for.
+ghost use mathlib.Core.Path.{_≡_};
+ghost use Prim.Native.Nat.{_≤_};
+ghost use lib.ListN.{length};
+ghost use Rattle.lines.specs.Asked.{malformedLine, askedBy, askedOf};
+ghost use Rattle.lines.specs.Fields.{fieldsOf};
+use crate::words::NONE;
+use crate::words::READ;
+use crate::words::WRITE;
+use crate::words::fields;
+
+// An access as a line asks for it; not good where the line is malformed.
+pub struct Asked {
+    pub good: bool,
+    pub task: usize,
+    pub object: usize,
+    pub sort: u32,
+    pub value: u32,
+}
+
+fn malformed() -> Asked
+    ensures { λ r. ⌜ r ≡ malformedLine ⌝ }
+{
+    Asked {
+        good: false,
+        task: 0,
+        object: 0,
+        sort: 0,
+        value: 0,
+    }
+}
+
+// An access whose letter is right or not; the numbers must be numbers.
+fn asked_by(right: bool, task: u64, object: u64, value: u64, sort: u32) -> Asked
+    ensures { λ r. ⌜ r ≡ askedBy right task object value sort ⌝ }
+{
+    if !right {
+        return malformed();
+    }
+    if NONE <= task {
+        return malformed();
+    }
+    if NONE <= object {
+        return malformed();
+    }
+    if NONE <= value {
+        return malformed();
+    }
+    Asked {
+        good: true,
+        task: task as usize,
+        object: object as usize,
+        sort,
+        value: value as u32,
+    }
+}
+
+// The access that a line asks for: `task R object` or `task W object value`.
+pub fn asked_of(line: &[u8]) -> Asked
+    requires { ⌜ length (now line) ≤ 1048576 ⌝ }
+    ensures { λ r. ⌜ r ≡ askedOf (fieldsOf (now (line .entry))) ⌝ }
+{
+    let mut row = [0u64; 4];
+    let n = fields(line, &mut row);
+    if n == 3 {
+        return asked_by(row[1] == READ, row[0], row[2], 0, 0);
+    }
+    if n == 4 {
+        return asked_by(row[1] == WRITE, row[0], row[2], row[3], 1);
+    }
+    malformed()
+}

@@ -1,0 +1,58 @@
+// The text that the program `record` reads: its lines, and what each asks for.
+ghost use mathlib.Core.Path.{_≡_};
+ghost use Prim.Native.Nat.{_+_, _≤_};
+ghost use lib.ListN.{length};
+ghost use Rattle.lines.specs.Lines.{isPassed, NextLine};
+use bytes::scan::find;
+
+pub mod asked;
+pub mod rows;
+mod words;
+
+// Empty lines and remarks are passed over.
+fn is_passed(line: &[u8]) -> bool
+    ensures { λ r. ⌜ r ≡ isPassed (now (line .entry)) ⌝ }
+{
+    if line.len() == 0 {
+        return true;
+    }
+    line[0] == b'#'
+}
+
+// A line that is not passed over: where it stands, and its number. Where there is none, the number is that of the line behind
+// the last.
+pub struct Found {
+    pub there: bool,
+    pub from: usize,
+    pub to: usize,
+    pub number: usize,
+}
+
+// The next line from `at` on, which is where line `first` begins.
+pub fn next_line(text: &[u8], at: usize, first: usize) -> Found
+    requires { ⌜ (length (now text) ≤ 1048576) × (at ≤ length (now text) + 1) × (first ≤ at + 1) ⌝ }
+    ensures { λ r. ⌜ NextLine (now (text .entry)) at first r ⌝ }
+{
+    let mut from = at;
+    let mut number = first;
+    while from < text.len() {
+        let to = find(text, from, text.len(), b'\n');
+        if !is_passed(&text[from..to]) {
+            return Found {
+                there: true,
+                from,
+                to,
+                number,
+            };
+        }
+        from = to + 1;
+        number += 1;
+    }
+    let end = text.len();
+    Found {
+        there: false,
+        from: end,
+        to: end,
+        number,
+    }
+}
