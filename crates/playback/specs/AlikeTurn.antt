@@ -17,9 +17,12 @@ use Rattle.playback.specs.ToEnd.{playOf}
 use Rattle.playback.specs.ToEndTurn.{away, found, surveyed}
 
 -- what the two plays and the two tests on them came to
-pub compares : (x y : Play) (p q : Played) (m n : List ℕ) (s a : Bool) → p ≡ shownPlay x → q ≡ shownPlay y → m ≡ x .memory → n ≡ y .memory → s ≡ sameEntries m n → a ≡ alikeOf p q s
-    → record { answer = record { number = 0; offset = 0; alike = a }; first = m; second = n } ≡ comparing x y
+pub compares : (x y : Play) (p q : Played) (m n : List ℕ) (s a : Bool) → p ≡ shownPlay x → q ≡ shownPlay y → m ≡ x .memory → n ≡ y .memory → s ≡ sameEntries m n → a ≡ alikeOf p q s → a ≡ comparing x y .answer .alike
 compares x y p q m n s a e f g h i j = rw (j, i, e, f, g, h)
+
+pub both-ended : (x y : Play) (m n : List ℕ) (a : Bool) → a ≡ comparing x y .answer .alike → m ≡ x .memory → n ≡ y .memory
+    → record { answer = record { number = 0; offset = 0; alike = a }; first = m; second = n } ≡ comparing x y
+both-ended x y m n a e g h = rw (e, g, h)
 
 -- the comparison by the tests in their order
 module _ (b c m n : List ℕ) (l : Layout) (e : l ≡ layoutOf (parse b)) where

@@ -1,9 +1,14 @@
 // Whether two recordings are alike: both are played to their end, the lowest ready task first, and what they came to is compared.
 ghost use mathlib.Core.Path.{_≡_};
-ghost use Rattle.playback.specs.Alike.{refusedCompared, sameEntries, alikeOf, sameOutcomeOf};
+ghost use lib.ListN.{length};
+ghost use Rattle.reader.specs.Layout.{layoutOf};
+ghost use Rattle.reader.specs.Parse.{parse};
+ghost use Rattle.playback.specs.Alike.{refusedCompared, sameEntries, alikeOf, comparing, sameOutcomeOf};
+ghost use Rattle.playback.specs.ToEnd.{playOf};
 use crate::finish::Played;
 use crate::to_end::play;
 use codec::number::ENTRIES;
+use reader::survey::Layout;
 use reader::survey::survey;
 
 pub struct Compared {
@@ -59,6 +64,27 @@ fn alike(x: Played, y: Played, memory: bool) -> bool
     memory
 }
 
+// Both surveyed recordings are played, and what they came to is compared.
+fn compare(
+    first: &[u8],
+    second: &[u8],
+    l: Layout,
+    k: Layout,
+    first_memory: &mut [u32],
+    second_memory: &mut [u32],
+) -> bool
+    requires { ⌜ (l ≡ layoutOf (parse (now first))) × (l .number ≡ 0) × (length (now «first_memory») ≡ l .objects) ⌝ }
+    requires { ⌜ (k ≡ layoutOf (parse (now second))) × (k .number ≡ 0) × (length (now «second_memory») ≡ k .objects) ⌝ }
+    ensures { λ r. ⌜ r ≡ comparing (playOf (now (first .entry)) (now («first_memory» .entry))) (playOf (now (second .entry)) (now («second_memory» .entry))) .answer .alike ⌝ }
+    ensures { λ r. ⌜ now («first_memory» .exit) ≡ playOf (now (first .entry)) (now («first_memory» .entry)) .memory ⌝ }
+    ensures { λ r. ⌜ now («second_memory» .exit) ≡ playOf (now (second .entry)) (now («second_memory» .entry)) .memory ⌝ }
+{
+    let x = play(first, l, first_memory);
+    let y = play(second, k, second_memory);
+    let memory = same_entries(first_memory, second_memory);
+    alike(x, y, memory)
+}
+
 // Both byte strings and both lengths are tested before either memory is set.
 pub fn same_outcome(
     first: &[u8],
@@ -84,12 +110,9 @@ pub fn same_outcome(
     if second_memory.len() != k.objects {
         return refused(ENTRIES, 0);
     }
-    let x = play(first, l, first_memory);
-    let y = play(second, k, second_memory);
-    let memory = same_entries(first_memory, second_memory);
     Compared {
         number: 0,
         offset: 0,
-        alike: alike(x, y, memory),
+        alike: compare(first, second, l, k, first_memory, second_memory),
     }
 }

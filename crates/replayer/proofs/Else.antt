@@ -12,6 +12,8 @@ use Rattle.replayer.proofs.next.Next.{the-type as next-type}
 use Rattle.replayer.specs.declared.Run.{Run}
 use Rattle.replayer.specs.declared.next.Next.{Next}
 use Rattle.replayer.specs.declared.next.Next.the-variants.{Open, Held, Refused}
+use Rattle.codec.specs.Number.{held}
+use Rattle.reader.specs.Reading.{stop}
 use Rattle.replayer.specs.Next.{refusalOf, isOpen}
 use Rattle.replayer.specs.StepOf.{refusedStep, haltOf, onNext}
 
@@ -35,3 +37,18 @@ pub closed-next : (n : Next) → OneOf (1 ∷ 2 ∷ []) (tagOf next-type n) → 
 closed-next (Open o k) h = absurd (miss (1 ∷ 2 ∷ []) 0 tt h)
 closed-next Held h = refl
 closed-next (Refused c) h = refl
+
+-- what each arm of a `match` answers
+pub halt-open : (n : Next) → OneOf (0 ∷ []) (tagOf next-type n) → stop 0 0 ≡ haltOf n
+halt-open (Open o k) h = refl
+halt-open Held h = absurd (miss (0 ∷ []) 1 tt h)
+halt-open (Refused c) h = absurd (miss (0 ∷ []) 2 tt h)
+
+pub halt-held : (n : Next) → OneOf (1 ∷ []) (tagOf next-type n) → stop held 0 ≡ haltOf n
+halt-held (Open o k) h = absurd (miss (1 ∷ []) 0 tt h)
+halt-held Held h = refl
+halt-held (Refused c) h = absurd (miss (1 ∷ []) 2 tt h)
+
+pub refusal-none : (f : Found) → OneOf (0 ∷ []) (tagOf found-type f) → stop 0 0 ≡ refusalOf f
+refusal-none (FoundAccess o a n) h = refl
+refusal-none (FoundRefused c) h = absurd (miss (0 ∷ []) 1 tt h)

@@ -2,9 +2,9 @@
 ghost use mathlib.Core.Path.{_≡_};
 ghost use Prim.Native.Nat.{_+_, _<_};
 ghost use Rattle.reader.specs.Object.{objectOf};
-ghost use Rattle.replayer.specs.Run.{doneOf, movedOf};
+ghost use Rattle.replayer.specs.Run.{taskAt, doneOf, movedOf};
 ghost use Rattle.replayer.specs.Memory.{kindOf, valueOf, performed};
-ghost use Rattle.replayer.specs.StepOf.{refusedStep, barredOf, haltOf};
+ghost use Rattle.replayer.specs.StepOf.{refusedStep, barredOf, haltOf, onNext};
 use crate::Run;
 use crate::Stepped;
 use crate::TaskRun;
@@ -72,7 +72,7 @@ pub(crate) fn halt(n: Next) -> Checked
 }
 
 // The kind of an access's record.
-pub(crate) fn kind_of(op: Op) -> u16
+fn kind_of(op: Op) -> u16
     ensures { λ r. ⌜ r ≡ kindOf op ⌝ }
 {
     match op {
@@ -82,7 +82,7 @@ pub(crate) fn kind_of(op: Op) -> u16
 }
 
 // The object that an access names.
-pub(crate) fn object_of(op: Op) -> usize
+fn object_of(op: Op) -> usize
     ensures { λ r. ⌜ r ≡ objectOf op ⌝ }
 {
     match op {
@@ -117,7 +117,7 @@ pub fn perform(op: Op, memory: &mut [u32]) -> u32
 }
 
 // The task goes on to a place, with one more access done, `access` in all; no other task moves.
-pub(crate) fn moved(run: Run, task: usize, next: usize, access: usize) -> Run
+fn moved(run: Run, task: usize, next: usize, access: usize) -> Run
     requires { ⌜ (task < 16) × (access ≡ doneOf (run .runs) task + 1) ⌝ }
     ensures { λ r. ⌜ r ≡ movedOf run task next ⌝ }
 {
@@ -134,5 +134,26 @@ pub(crate) fn moved(run: Run, task: usize, next: usize, access: usize) -> Run
         tasks: run.tasks,
         objects: run.objects,
         runs,
+    }
+}
+
+// A step that is taken: the access done on the memory, the run moved on, and the answer.
+pub(crate) fn taken(run: Run, memory: &mut [u32], task: usize, op: Op, next: usize) -> Stepped
+    requires { ⌜ (task < 16) × (taskAt (run .runs) task .done < taskAt (run .runs) task .count) ⌝ }
+    ensures { λ r. ⌜ r ≡ onNext run (now (memory .entry)) task (Next.Open op next) .answer ⌝ }
+    ensures { λ r. ⌜ now (memory .exit) ≡ onNext run (now (memory .entry)) task (Next.Open op next) .memory ⌝ }
+{
+    let x = run.runs[task];
+    let access = x.done + 1;
+    let value = perform(op, memory);
+    let after = moved(run, task, next, access);
+    Stepped {
+        number: 0,
+        offset: 0,
+        kind: kind_of(op),
+        object: object_of(op),
+        value,
+        access,
+        run: after,
     }
 }

@@ -24,8 +24,8 @@ pub enum Next {
     Refused(Checked),
 }
 
-// What is found by looking at a task's next group: what stands next, and how far it is judged. The place of the access's record, and the
-// place of the first ordering before it that is not met, or of the record where all are met; 0 and 0 where the group does not read.
+// What a look at a task's next group finds: what stands next, and how far it is judged. `at` is the place of the access's record, `scan`
+// that of the first ordering before it that is not met, or `at` where all are met; both are 0 where the group does not read.
 pub struct Look {
     pub next: Next,
     pub scan: usize,

@@ -3,7 +3,7 @@ use denote.Ref.{now}
 use borrow.Author.Needs.{needs}
 use Rattle.playback.specs.Alike.{Comparison}
 use Rattle.playback.specs.ToEnd.{playOf}
-use Rattle.playback.specs.AlikeTurn.{compares, first-away, second-away, first-entries, second-entries, both-play}
+use Rattle.playback.specs.AlikeTurn.{both-ended, first-away, second-away, first-entries, second-entries, both-play}
 use Rattle.playback.proofs.alike.same_outcome.Statement.{statement}
 use Rattle.playback.proofs.alike.same_outcome.Tie as tie
 
@@ -53,33 +53,23 @@ returns-4 c =
     let e = parts (second-entries (now (a .first)) (now (a .second)) (now (a .first-memory)) (now (a .second-memory)) (c .before .before .before .before .before .before .before .before .before .before .survey .result) (c .before .before .before .before .before .before .before .before .before .before .survey .ensures) (c .before .before .before .before .before .before .before .survey2 .result) (c .before .before .before .before .before .before .before .before .if1 .left) (c .before .before .before .before .before .before .before .survey2 .ensures) (c .before .before .before .before .before .if2 .left) (c .before .before .before .if3 .left) (c .before .if4 .taken)) in
     (c .refused4 .ensures ∙ e .0, e .1)
 
-play-requires : tie.Need-play-requires
-play-requires c κs = (c .before .before .before .before .before .before .before .before .before .before .survey .ensures, c .before .before .before .before .before .before .before .before .if1 .left, c .before .before .before .if3 .left)
-
-play-requires-2 : tie.Need-play-requires-2
-play-requires-2 c κs = (c .before .before .before .before .before .before .before .before .before .before .before .survey2 .ensures, c .before .before .before .before .before .before .before .before .before .if2 .left, c .before .before .before .before .before .if4 .left)
-
-same-entries-requires : tie.Need-same-entries-requires
-same-entries-requires c κs = search needs
-
-alike-requires : tie.Need-alike-requires
-alike-requires c κs = search needs
+compare-requires : tie.Need-compare-requires
+compare-requires c κs = ((c .before .before .before .before .before .before .before .before .before .before .before .survey .ensures, c .before .before .before .before .before .before .before .before .before .if1 .left, c .before .before .before .before .if3 .left), (c .before .before .before .before .before .before .before .before .survey2 .ensures, c .before .before .before .before .before .before .if2 .left, c .before .before .if4 .left))
 
 same-length : tie.Need-same-length
-same-length c = c .before .before .before .before .before .before .before .before .before .before .play .kept .1 .1 .0
+same-length c = c .before .before .before .before .compare .kept .1 .1 .1 .1 .0
 
 same-length-2 : tie.Need-same-length-2
-same-length-2 c = c .before .before .before .before .before .before .play2 .kept .1 .1 .0
+same-length-2 c = c .before .before .before .before .compare .kept .1 .1 .1 .1 .1 .0
 
 returns-5 : tie.Need-returns-5
 returns-5 c =
-    let a = c .before .before .before .before .before .before .before .before .before .before .before .before .before .before .before .before .before .before .before .before .before .before .before .before .before .before .args in
-    let x = c .before .before .before .before .before .before .before .before .before .before .play in
-    let y = c .before .before .before .before .before .before .play2 in
-    let s = c .before .same-entries in
-    parts (compares (playOf (now (a .first)) (now (a .first-memory))) (playOf (now (a .second)) (now (a .second-memory))) (x .result) (y .result) (x .last .1 .1 .0) (y .last .1 .1 .0) (s .result) (c .alike .result)
-    (x .ensures .0) (y .ensures .0) (x .ensures .1) (y .ensures .1) (s .ensures) (c .alike .ensures)
-    ∙ both-play (now (a .first)) (now (a .second)) (now (a .first-memory)) (now (a .second-memory)) (c .before .before .before .before .before .before .before .before .before .before .before .before .before .before .before .before .before .before .before .before .before .survey .result) (c .before .before .before .before .before .before .before .before .before .before .before .before .before .before .before .before .before .before .before .before .before .survey .ensures) (c .before .before .before .before .before .before .before .before .before .before .before .before .before .before .before .before .before .before .survey2 .result) (c .before .before .before .before .before .before .before .before .before .before .before .before .before .before .before .before .before .before .before .if1 .left) (c .before .before .before .before .before .before .before .before .before .before .before .before .before .before .before .before .before .before .survey2 .ensures) (c .before .before .before .before .before .before .before .before .before .before .before .before .before .before .before .before .if2 .left) (c .before .before .before .before .before .before .before .before .before .before .before .before .before .before .if3 .left) (c .before .before .before .before .before .before .before .before .before .before .before .before .if4 .left))
+    let a = c .before .before .before .before .before .before .before .before .before .before .before .before .before .before .before .before .before .before .before .before .before .args in
+    let l = c .before .before .before .before .before .before .before .before .before .before .before .before .before .before .before .before .survey in
+    let k = c .before .before .before .before .before .before .before .before .before .before .before .before .before .survey2 in
+    let r = c .before .before .before .before .compare in
+    parts (both-ended (playOf (now (a .first)) (now (a .first-memory))) (playOf (now (a .second)) (now (a .second-memory))) (r .last .1 .1 .1 .1 .0) (r .last .1 .1 .1 .1 .1 .0) (r .result) (r .ensures .0) (r .ensures .1 .0) (r .ensures .1 .1)
+    ∙ both-play (now (a .first)) (now (a .second)) (now (a .first-memory)) (now (a .second-memory)) (l .result) (l .ensures) (k .result) (c .before .before .before .before .before .before .before .before .before .before .before .before .before .before .if1 .left) (k .ensures) (c .before .before .before .before .before .before .before .before .before .before .before .if2 .left) (c .before .before .before .before .before .before .before .before .before .if3 .left) (c .before .before .before .before .before .before .before .if4 .left))
 
 pub same-outcome-spec : {M : Type 1} → statement M
 same-outcome-spec =
@@ -95,10 +85,7 @@ same-outcome-spec =
     returns-3
     refused-requires-4
     returns-4
-    play-requires
-    play-requires-2
-    same-entries-requires
-    alike-requires
+    compare-requires
     same-length
     same-length-2
     returns-5)

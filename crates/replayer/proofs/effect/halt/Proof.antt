@@ -1,4 +1,5 @@
 use borrow.Author.Needs.{needs}
+use Rattle.replayer.proofs.Else.{halt-open, halt-held}
 use Rattle.replayer.proofs.effect.halt.Statement.{statement}
 use Rattle.replayer.proofs.effect.halt.Tie as tie
 
@@ -12,10 +13,10 @@ enum-known-n : tie.Need-enum-known-n
 enum-known-n c = search needs
 
 returns : tie.Need-returns
-returns c = cc
+returns c = halt-open (c .before .before .args .n) (c .before .match .keys1)
 
 returns-2 : tie.Need-returns-2
-returns-2 c = cc
+returns-2 c = halt-held (c .before .before .args .n) (c .before .match .keys2)
 
 returns-3 : tie.Need-returns-3
 returns-3 c = search needs

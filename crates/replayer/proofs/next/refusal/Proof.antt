@@ -1,4 +1,5 @@
 use borrow.Author.Needs.{needs}
+use Rattle.replayer.proofs.Else.{refusal-none}
 use Rattle.replayer.proofs.next.refusal.Statement.{statement}
 use Rattle.replayer.proofs.next.refusal.Tie as tie
 
@@ -12,7 +13,7 @@ returns : tie.Need-returns
 returns c = search needs
 
 returns-2 : tie.Need-returns-2
-returns-2 c = cc
+returns-2 c = refusal-none (c .before .before .args .f) (c .before .match .keys2)
 
 pub refusal-spec : {M : Type 1} → statement M
 refusal-spec = tie.close (tie.spec enum-known-f enum-told returns returns-2)
