@@ -1,18 +1,16 @@
 -- One turn of the play to the end, over plain variables: the lowest ready task's access done on the memory, and the run behind it.
 use mathlib.Core.Path.{_≡_, refl, sym, ap, _∙_}
 use mathlib.Core.List.{List}
-use Prim.Native.Nat.{ℕ, _+_, _<_}
+use Prim.Native.Nat.{ℕ, _+_}
 use native.Mathlib.Omega.{arith}
 use lib.ListN.{length}
 use Rattle.codec.specs.declared.Op.{Op}
-use Rattle.reader.specs.Object.{objectOf}
 use Rattle.replayer.specs.declared.Run.{Run}
 use Rattle.replayer.specs.declared.next.Next.the-variants.{Open}
 use Rattle.replayer.specs.Finish.{Play, onward, leftOver, finishOf, shownPlay}
 use Rattle.replayer.specs.FinishLaws.{Playing, Onward, goes-onward, finish-on, finish-end}
 use Rattle.replayer.specs.LowestLaws.{IsNext}
 use Rattle.replayer.specs.Memory.{performed}
-use Rattle.replayer.specs.NextLaws.{next-below}
 use Rattle.replayer.specs.ReadyOf.{readyOf}
 use Rattle.replayer.specs.Run.{movedOf}
 use Rattle.replayer.specs.StepOf.{onNext, stepOf}
@@ -26,9 +24,6 @@ pub record Going (b : List ℕ) (start x : Play) : Type 0 where
 
 -- what the step of the next task does
 module _ (b : List ℕ) (x : Play) (w : Playing b x) (t : ℕ) (op : Op) (next : ℕ) (n : IsNext (x .run) b t op next) where
-  pub step-object : objectOf op < length (x .memory)
-  step-object = omega (arith, w .entries, next-below (x .run) b t op next (n .opens))
-
   pub step-open : stepOf (x .run) b (x .memory) t ≡ onNext (x .run) (x .memory) t (Open op next)
   step-open =
       step-next (x .run) b (x .memory) t 0

@@ -1,10 +1,8 @@
 // What a step does: the tests before the bytes, the access on the memory, the run's move, and the answers.
 ghost use mathlib.Core.Path.{_≡_};
 ghost use Prim.Native.Nat.{_+_, _<_};
-ghost use lib.ListN.{length};
-ghost use Rattle.reader.specs.Object.{objectOf};
 ghost use Rattle.replayer.specs.Run.{doneOf, advanced as advancedOf, movedOf};
-ghost use Rattle.replayer.specs.Memory.{kindOf, valueOf, performed};
+ghost use Rattle.replayer.specs.Memory.{valueOf, performed};
 ghost use Rattle.replayer.specs.StepOf.{refusedStep, barredOf, haltOf};
 use crate::Run;
 use crate::Stepped;
@@ -12,8 +10,7 @@ use crate::TaskRun;
 use crate::next::Next;
 use crate::sound::sound;
 use codec::Op;
-use codec::kind::READ;
-use codec::kind::WRITE;
+use codec::kind::writes;
 use codec::number::ENTRIES;
 use codec::number::FINISHED;
 use codec::number::HELD;
@@ -72,43 +69,23 @@ pub(crate) fn halt(n: Next) -> Checked
     }
 }
 
-// The kind of an access's record.
-pub(crate) fn kind_of(op: Op) -> u16
-    ensures { λ r. ⌜ r ≡ kindOf op ⌝ }
-{
-    match op {
-        Op::Read(_) => READ,
-        Op::Write(_, _) => WRITE,
-    }
-}
-
-// The object that an access names.
-pub(crate) fn object_of(op: Op) -> usize
-    ensures { λ r. ⌜ r ≡ objectOf op ⌝ }
-{
-    match op {
-        Op::Read(object) => object as usize,
-        Op::Write(object, _) => object as usize,
-    }
-}
-
-// A read gives the memory's value, a write stores and gives its own.
+// A read gives the memory's value, a write stores and gives its own. Past the memory's end nothing is stored, and 0 stands there.
 pub(crate) fn perform(op: Op, memory: &mut [u32]) -> u32
-    requires { ⌜ objectOf op < length (now memory) ⌝ }
     ensures { λ r. ⌜ r ≡ valueOf op (now (memory .entry)) ⌝ }
     ensures { λ r. ⌜ now (memory .exit) ≡ performed op (now (memory .entry)) ⌝ }
 {
-    match op {
-        Op::Read(object) => {
-            let o = object as usize;
-            memory[o]
-        }
-        Op::Write(object, value) => {
-            let o = object as usize;
+    let o = op.object as usize;
+    let value = op.value;
+    if writes(op.kind) {
+        if o < memory.len() {
             memory[o] = value;
-            value
         }
+        return value;
     }
+    if o < memory.len() {
+        return memory[o];
+    }
+    0
 }
 
 // A task goes on to a place, with one more access done.

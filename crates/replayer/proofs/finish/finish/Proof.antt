@@ -7,7 +7,7 @@ use Rattle.replayer.specs.Columns.{runOf}
 use Rattle.replayer.specs.ColumnsLaws.{columns-back}
 use Rattle.replayer.specs.ColumnsTurn.{Columned, columned-none, columned-noted, columned-moved, columned-on}
 use Rattle.replayer.specs.Finish.{Play, leftOver}
-use Rattle.replayer.specs.FinishTurn.{Going, going-start, step-object, going-on, going-end}
+use Rattle.replayer.specs.FinishTurn.{Going, going-start, going-on, going-end}
 use Rattle.replayer.specs.LowestLaws.{IsNext, found-next, found-none}
 use Rattle.replayer.specs.Run.{doneOf}
 use Rattle.replayer.proofs.Else.{not-ready}
@@ -71,7 +71,7 @@ returns : tie.Need-returns Inv-loop μ-loop
 returns c = let i = c .before .before .before .before .before .before .before .before .before .before .before .before .before .before .loop .inv in going-end _ _ _ (i .2) (found-none _ _ (i .2 .playing .sound) _ (c .before .before .before .before .before .before .before .lowest .ensures .0) (not-ready _ (c .before .before .before .before .before .before .match .keys2))) _ (c .run-of .ensures)
 
 perform-requires : tie.Need-perform-requires Inv-loop μ-loop
-perform-requires c κs = step-object _ _ (c .before .before .before .before .before .before .before .before .before .before .before .loop .inv .2 .playing) _ _ _ (next (c .before) .0)
+perform-requires c κs = search needs
 
 mul-places : tie.Need-mul-places Inv-loop μ-loop
 mul-places c = omega (arith, next (c .before .before .before .before) .0 .few)
