@@ -1,6 +1,5 @@
--- A history's entries as they stand in a recording (document 01, "Records"): per task its accesses with their orderings, oldest first,
--- without the values read.
-use mathlib.Core.Bool.{cond}
+-- A history's entries as they stand in a recording (document 01, "Records"): per task its accesses with their orderings, oldest first.
+use mathlib.Core.Bool.{true, false, cond}
 use mathlib.Core.Path.{_≡_, sym, _∙_}
 use mathlib.Core.List.{List, [], _∷_, _++_}
 use Prim.Native.Nat.{ℕ, zero, suc}
@@ -10,15 +9,15 @@ use borrow.Author.Tests.{eq-eqb, ne-eqb}
 use lib.Dec.{eqb}
 use lib.ListN.{length, length-append}
 use Rattle.codec.specs.declared.Op.{Op}
-use Rattle.codec.specs.declared.Op.the-variants.{Read, Write}
+use Rattle.codec.specs.Encode.{opOf}
 use Rattle.reader.specs.Recording.{Entry as FileEntry}
 use Rattle.history.specs.Entry.{Act, read, write, acquire, Entry}
 use Rattle.history.specs.History.{History, count, count-none, count-own, count-other}
 
 abbrev pub filedOp : Act → Op
-filedOp (read c v) = Read c
-filedOp (write c v) = Write c v
-filedOp (acquire n) = Read n
+filedOp (read c v) = opOf false c v
+filedOp (write c v) = opOf true c v
+filedOp (acquire n) = opOf false n 0
 
 abbrev pub filed : Entry → FileEntry
 filed e = record { orderings = e .orderings; op = filedOp (e .act) }

@@ -11,7 +11,7 @@ use lib.ListN.{length, getD, length-append}
 use Rattle.codec.specs.Decide.{passes, fails, split}
 use Rattle.reader.specs.declared.Limits.{Limits}
 use Rattle.reader.specs.Recording.{Entry as FileEntry}
-use Rattle.reader.specs.Bytes.{entryBytes, entry-length, bodyBytes}
+use Rattle.reader.specs.Bytes.{entryBytes, bodyBytes}
 use Rattle.reader.specs.Range.{EntryIn, EntriesIn}
 use Rattle.history.specs.Entry.{Entry}
 use Rattle.history.specs.History.{History, count, count-own, count-other, At, here, there}
@@ -19,7 +19,7 @@ use Rattle.tracker.specs.Accesses.{entryOf as trackedEntry}
 use Rattle.tracker.specs.After.{next-tasks, next-objects}
 use Rattle.tracker.specs.Tracks.{Tracks, tracks-more}
 use Rattle.recorder.specs.AccessOf.{isWrite}
-use Rattle.recorder.specs.Accepted.{Takes, entry-in, entry-bound}
+use Rattle.recorder.specs.Accepted.{Takes, written-length, entry-in, entry-bound}
 use Rattle.recorder.specs.WholeRun.{AccessCall, Call, Box, called, leftBy, calledAll}
 use Rattle.fidelity.specs.Box.{Fits, Asked, callsOf, accepts, entryOf, addedBy, recordedFrom}
 use Rattle.fidelity.specs.Filed.{filedOf}
@@ -66,7 +66,7 @@ module _ {start : ℕ → ℕ} {tasks objects : ℕ} {b : Box} {h : History} (f 
 
     small-next : (t : ℕ) → length (boxAfter b c .logs t) ≤ 138 * count t (historyEntry b c ∷ h)
     small-next t = elim (split (eqb (c .task) t)) [
-      | passes p ↦ rw (p, length-append, entry-length) (omega (
+      | passes p ↦ rw (p, length-append, written-length) (omega (
         arith,
         f .small t,
         count-own t (historyEntry b c) h (eqb-true _ _ p),

@@ -1,5 +1,5 @@
 -- One step over bytes and one step of the history's replay: both are taken or neither, and what they have in common is kept.
-use mathlib.Core.Bool.{true}
+use mathlib.Core.Bool.{true, false}
 use mathlib.Core.List.{List, _∷_}
 use mathlib.Core.Option.{some}
 use mathlib.Core.Path.{_≡_, sym, ap, _∙_}
@@ -11,7 +11,8 @@ use lib.ListN.{length, getD}
 use lib.Seq.{getD-set-same, getD-set-other}
 use Rattle.codec.specs.declared.Op.{Op}
 use Rattle.codec.specs.Decide.{never}
-use Rattle.reader.specs.Object.{objectOf}
+use Rattle.codec.specs.Encode.{op-reads, op-writes, op-object, op-value}
+use Rattle.codec.specs.Kind.{reads, writes}
 use Rattle.reader.specs.Bytes.{entryLength}
 use Rattle.reader.specs.Reading.{read}
 use Rattle.reader.specs.Recording.{Entry as FileEntry}
@@ -24,7 +25,7 @@ use Rattle.history.specs.Step.{Taken, Refused, taken, refused, step-goes}
 use Rattle.replayer.specs.declared.TaskRun.{TaskRun}
 use Rattle.replayer.specs.declared.Stepped.{Stepped}
 use Rattle.replayer.specs.Left.{Left, left-entry, left-own, left-other}
-use Rattle.replayer.specs.Memory.{performed, valueOf, kindOf}
+use Rattle.replayer.specs.Memory.{performed, valueOf}
 use Rattle.replayer.specs.Moved.{moved-own, moved-other}
 use Rattle.replayer.specs.Run.{taskAt, doneOf, movedOf}
 use Rattle.replayer.specs.StepLaws.{Taken as TakenBy, Turned, taken as takenBy, turned, step-goes as step-goes-by, step-keeps}
@@ -36,20 +37,20 @@ use Rattle.fidelity.specs.Sim.{Sim, sim-ready}
 use Rattle.fidelity.specs.Statement.{Shows}
 
 -- an act done on a list and on a function that agree
-perform-same : (a : Act) (memory : List ℕ) (m : ℕ → ℕ) (n : ℕ) → ((c : ℕ) → c < n → getD memory c 0 ≡ m c) → length memory ≡ n → objectOf (filedOp a) < n → Recordable a
+perform-same : (a : Act) (memory : List ℕ) (m : ℕ → ℕ) (n : ℕ) → ((c : ℕ) → c < n → getD memory c 0 ≡ m c) → length memory ≡ n → filedOp a .object < n → Recordable a
     → (c : ℕ) → c < n → getD (performed (filedOp a) memory) c 0 ≡ perform a m c
-perform-same (Act.read x v) memory m n e l low r c k = e c k
+perform-same (Act.read x v) memory m n e l low r c k = rw (op-writes false x v) (e c k)
 perform-same (Act.write x v) memory m n e l low r c k = elim (ℕ-discrete x c) [
-  | yes p ↦ rw (eq-eqb x c p, ← p) (getD-set-same memory x v 0 (omega arith))
-  | no p ↦ rw (ne-eqb x c p) (getD-set-other memory x c v 0 (λ z. p (sym z)) ∙ e c k)
+  | yes p ↦ rw (op-writes true x v, op-object, op-value, eq-eqb x c p, ← p) (getD-set-same memory x v 0 (omega (arith, op-object true x v)))
+  | no p ↦ rw (op-writes true x v, op-object, op-value, ne-eqb x c p) (getD-set-other memory x c v 0 (λ z. p (sym z)) ∙ e c k)
 ]
 perform-same (Act.acquire n₁) memory m n e l low r c k = absurd r
 
 -- what a step answers of it
-shows-same : (a : Act) (memory : List ℕ) (m : ℕ → ℕ) (n : ℕ) → ((c : ℕ) → c < n → getD memory c 0 ≡ m c) → objectOf (filedOp a) < n → Recordable a
-    → (r : Stepped) → r .kind ≡ kindOf (filedOp a) → r .object ≡ objectOf (filedOp a) → r .value ≡ valueOf (filedOp a) memory → Shows r (shown a m)
-shows-same (Act.read x v) memory m n e low rec r k o w = (k, o, w ∙ e x low)
-shows-same (Act.write x v) memory m n e low rec r k o w = (k, o, w)
+shows-same : (a : Act) (memory : List ℕ) (m : ℕ → ℕ) (n : ℕ) → ((c : ℕ) → c < n → getD memory c 0 ≡ m c) → filedOp a .object < n → Recordable a
+    → (r : Stepped) → r .kind ≡ filedOp a .kind → r .object ≡ filedOp a .object → r .value ≡ valueOf (filedOp a) memory → Shows r (shown a m)
+shows-same (Act.read x v) memory m n e low rec r k o w = (ap reads k ∙ op-reads false x v, o ∙ op-object false x v, w ∙ rw (op-writes false x v, op-object) (e x (rw op-object at low)))
+shows-same (Act.write x v) memory m n e low rec r k o w = (ap writes k ∙ op-writes true x v, o ∙ op-object true x v, w ∙ rw (op-writes true x v) (op-value x v))
 shows-same (Act.acquire x) memory m n e low rec r k o w = absurd rec
 
 -- a taken step and its entry
@@ -95,8 +96,8 @@ module _ (h : History) (bytes : List ℕ) (tasks objects : ℕ) (holds : Holds h
     few : t < 16
     few = omega (arith, w .below, Rattle.replayer.specs.Sound.sound-facts (b .run) (length bytes) (i .sound) .few-tasks)
 
-    object-low : objectOf (filedOp (e .act)) < objects
-    object-low = let o : objectOf op < objects = omega (arith, w .object, i .entries) in rw op-is at o
+    object-low : filedOp (e .act) .object < objects
+    object-low = let o : op .object < objects = omega (arith, w .object, i .entries) in rw op-is at o
 
     done-moved : (u : ℕ) → doneOf (movedOf (b .run) t nx .runs) u ≡ oneMore t (s .done) u
     unfolding oneMore
@@ -143,7 +144,7 @@ module _ (h : History) (bytes : List ℕ) (tasks objects : ℕ) (holds : Holds h
               replies = k .answers;
               number = w .access ∙ (omega (arith, i .done t));
               shows = shows-same (e .act) (b .memory) (s .memory) objects (i .memory) object-low (holds .recordable (k .access .at)) (answerOf bytes b t)
-                  (w .kind ∙ ap kindOf op-is) (w .names ∙ ap objectOf op-is) (w .value ∙ ap (λ (o : Op). valueOf o (b .memory)) op-is);
+                  (w .kind ∙ ap (λ (o : Op). o .kind) op-is) (w .names ∙ ap (λ (o : Op). o .object) op-is) (w .value ∙ ap (λ (o : Op). valueOf o (b .memory)) op-is);
             },
           );
         }

@@ -6,7 +6,7 @@ use mathlib.Core.Logic.{_↔_}
 use mathlib.Core.Path.{_≡_}
 use Prim.Native.Nat.{ℕ, suc, _≤_, _<_}
 use lib.ListN.{length, getD}
-use Rattle.codec.specs.Kind.{readKind, writeKind}
+use Rattle.codec.specs.Kind.{reads as readsKind, writes as writesKind}
 use Rattle.reader.specs.Calls.{checkedOf}
 use Rattle.reader.specs.Parse.{Parsed, parse}
 use Rattle.reader.specs.Reading.{read as reads, stop}
@@ -30,10 +30,10 @@ pub record Accepted (o : Opening) (asked : List Asked) (outs : ℕ → List ℕ)
   pub packed : (t : ℕ) → t < o .tasks → sectionOf (lastBox o asked .state) t (lastBox o asked .logs t) (outs t) .answer .number ≡ 0
   pub replayed : openOf (recordingOf o asked outs) memory .answer .number ≡ 0
 
--- a step's kind, object and value are those of an act
+-- a step's sort, told by its kind, its object and its value are those of an act
 abbrev pub Shows : Stepped → Act → Type 0
-Shows a (read object value) = (a .kind ≡ readKind) × (a .object ≡ object) × (a .value ≡ value)
-Shows a (write object value) = (a .kind ≡ writeKind) × (a .object ≡ object) × (a .value ≡ value)
+Shows a (read object value) = (readsKind (a .kind) ≡ true) × (a .object ≡ object) × (a .value ≡ value)
+Shows a (write object value) = (writesKind (a .kind) ≡ true) × (a .object ≡ object) × (a .value ≡ value)
 Shows a (acquire number) = ⊥
 
 module _ (o : Opening) (asked : List Asked) (outs : ℕ → List ℕ) (memory : List ℕ) where

@@ -7,17 +7,19 @@ use borrow.Author.Tests.{eqb-true, eqb-false}
 use lib.Dec.{eqb}
 use lib.ListN.{length, getD, length-set}
 use lib.Seq.{getD-set-same, getD-set-other}
+use Rattle.codec.specs.declared.Op.{Op}
 use Rattle.codec.specs.Decide.{passes, fails, split}
+use Rattle.codec.specs.Encode.{op-read}
 use Rattle.codec.specs.Store.{store-front}
 use Rattle.reader.specs.Recording.{Entry as FileEntry}
-use Rattle.reader.specs.Bytes.{entryBytes, entryLength, entry-length}
+use Rattle.reader.specs.Bytes.{entryBytes, entryLength}
 use Rattle.history.specs.Entry.{Entry}
 use Rattle.tracker.specs.declared.State.{State}
 use Rattle.tracker.specs.Accesses.{entryOf as trackedEntry, memoryAfter as trackedMemory}
 use Rattle.tracker.specs.Next.{nextOf}
 use Rattle.tracker.specs.Orderings.{writtenOf}
 use Rattle.recorder.specs.AccessOf.{isWrite, accepted, refused, valueAfter, memoryAfter, entryOf as writtenEntry}
-use Rattle.recorder.specs.Accepted.{Takes, takes-accepted, number-refused, number-takes}
+use Rattle.recorder.specs.Accepted.{Takes, takes-accepted, number-refused, number-takes, written-length}
 use Rattle.recorder.specs.WholeRun.{AccessCall, Box, outcome, called}
 use Rattle.fidelity.specs.Box.{accepts, actOf, entryOf}
 use Rattle.fidelity.specs.Filed.{filed}
@@ -55,7 +57,7 @@ module _ (b : Box) (c : AccessCall) where
   unfolding called accepted
   took k a e = takenTurn k a (rw e)
       (rw e (act-same (b .state) (c .task) (c .object) (isWrite (c .sort)) (c .value) (b .memory)))
-      (simp (e, store-front (c .out) (entryBytes (fileEntry b c)) (entryLength (fileEntry b c)) (entry-length (fileEntry b c)) (k .room)))
+      (simp (e, store-front (c .out) (entryBytes (fileEntry b c)) (entryLength (fileEntry b c)) (written-length (b .state) (c .task) (c .object) (isWrite (c .sort)) (c .value)) (k .room)))
 
   same-logs : (t : ℕ) → cond (eqb (c .task) t) (b .logs t ++ []) (b .logs t) ≡ b .logs t
   same-logs t = elim (split (eqb (c .task) t)) [
@@ -82,7 +84,7 @@ module _ (b : Box) (c : AccessCall) where
       go : (write : Bool) → filed (trackedEntry (b .state) (c .task) (c .object) write (c .value) (getD (b .memory) (c .object) 0))
           ≡ writtenEntry (b .state) (c .task) (c .object) write (c .value)
       go true = refl
-      go false = refl
+      go false = ap (λ (o : Op). record { orderings = writtenOf (b .state) (c .task) (c .object) false; op = o }) (op-read (c .object) (getD (b .memory) (c .object) 0) (c .value))
 
 -- memory by object, after an access to an object that it has
 pub memory-after : (memory : List ℕ) (object : ℕ) (write : Bool) (value : ℕ) → object < length memory

@@ -8,6 +8,7 @@ use native.Mathlib.Decide.{ℕ-discrete}
 use borrow.Author.Tests.{eq-eqb, ne-eqb}
 use lib.Dec.{eqb}
 use lib.ListN.{length, replicate, length-replicate}
+use Rattle.codec.specs.Kind.{write-no-read}
 use Rattle.history.specs.Entry.{Act, read, write, acquire}
 use Rattle.history.specs.OneMore.{oneMore-own, oneMore-other}
 use Rattle.history.specs.Replay.{oneMore}
@@ -41,7 +42,7 @@ use Rattle.programs.specs.WholeText.{whole-text}
 line-shows : (t k : ℕ) (s : Stepped) (a : Act) → s .access ≡ k → Shows s a → lineOf t s ≡ accessLine t k a
 unfolding lineOf accessLine
 line-shows t k s (read object value) e (kind, o, v) = rw (e, kind, o, v)
-line-shows t k s (write object value) e (kind, o, v) = rw (e, kind, o, v)
+line-shows t k s (write object value) e (kind, o, v) = rw (e, write-no-read (s .kind) kind, o, v)
 line-shows t k s (acquire number) e w = absurd w
 
 -- a play is the bench after the same steps

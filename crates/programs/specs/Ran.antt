@@ -10,10 +10,9 @@ use lib.Dec.{eqb}
 use lib.ListN.{length, take, replicate, length-append, length-replicate}
 use Rattle.codec.specs.Decide.{passes, fails, split, both-pass}
 use Rattle.history.specs.History.{History}
-use Rattle.recorder.specs.AccessOf.{isWrite, entryOf, accessNumber, accepted, refused, accessOf}
-use Rattle.recorder.specs.Accepted.{number-takes}
+use Rattle.recorder.specs.AccessOf.{isWrite, accessNumber, accepted, refused, accessOf}
+use Rattle.recorder.specs.Accepted.{number-takes, written-length as entry-written}
 use Rattle.recorder.specs.WholeRun.{Call, AccessCall, Box, outcome, called, leftBy, calledAll}
-use Rattle.reader.specs.Bytes.{entry-length}
 use Rattle.tracker.specs.declared.State.{State}
 use Rattle.fidelity.specs.Box.{Opening, openedBy, Asked, callsOf, firstBox, lastBox, accepts, addedBy, recordedFrom, recorded}
 use Rattle.fidelity.specs.FirstBox.{follows-last}
@@ -71,7 +70,7 @@ written-length s task object sort value memory out = elim (split (eqb (accessNum
   | fails p ↦ rw p
   | passes p ↦
       let t = number-takes s task object sort value memory out (rw p) in
-      let e = entry-length (entryOf s task object (isWrite sort) value) in
+      let e = entry-written s task object (isWrite sort) value in
       rw (p, store-front out _ _ e (t .room), e)
 ]
 

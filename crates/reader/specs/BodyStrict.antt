@@ -10,7 +10,6 @@ use lib.Seq.{drop-drop}
 use borrow.Author.Tests.{ltb-true, eqb-false, not-true}
 use Rattle.codec.specs.declared.Position.{Position}
 use Rattle.codec.specs.declared.Op.{Op}
-use Rattle.codec.specs.declared.Op.the-variants.{Read, Write}
 use Rattle.codec.specs.declared.Record.{Record}
 use Rattle.codec.specs.declared.Record.the-variants.{Head, Section, Ordering, Access, Refused}
 use Rattle.codec.specs.Decide.{passes, fails, split, both-pass}
@@ -48,8 +47,7 @@ position-in m p f ok =
 
 op-in : (m : Limits) (o : Op) → FitsOp o → accessOk m o ≡ true → OpIn m o
 unfolding accessOk
-op-in m (Read o) f ok = ltb-true _ _ ok
-op-in m (Write o v) f ok = (ltb-true _ _ ok, f .1)
+op-in m o f ok = record { access = f .access; below = ltb-true _ _ ok; fits = f .value; none = f .none }
 
 came-after : (m : Limits) (b : List ℕ) (p : Position) (x : Reading Entry) → b ≡ ordering p ++ drop 8 b → PositionIn m p → Came m (drop 8 b) x → Came m b (after p x)
 unfolding entryBytes orderingsBytes
@@ -105,14 +103,14 @@ body-from zero m at [] h by = (refl, tt)
 body-from zero m at (x ∷ b) h by = absurd (omega arith)
 body-from (suc f) m at [] h by = (refl, tt)
 body-from (suc f) m at (x ∷ b) h by =
-    go (λ e. body-from f m (at + entryLength e) (drop (entryLength e) (x ∷ b)) (rw length-drop (omega (arith, entry-long e))) (bytes-drop (entryLength e) (x ∷ b) by))
+    go (λ e i. body-from f m (at + entryLength e) (drop (entryLength e) (x ∷ b)) (rw length-drop (omega (arith, entry-long e (i .op .access)))) (bytes-drop (entryLength e) (x ∷ b) by))
     (entryOf m (stop inBody at) at (x ∷ b)) (entry-came m (stop inBody at) at (x ∷ b) by)
   where
-    go : ((e : Entry) → CameBody m (drop (entryLength e) (x ∷ b)) (bodyFrom f m (at + entryLength e) (drop (entryLength e) (x ∷ b))))
+    go : ((e : Entry) → EntryIn m e → CameBody m (drop (entryLength e) (x ∷ b)) (bodyFrom f m (at + entryLength e) (drop (entryLength e) (x ∷ b))))
         → (y : Reading Entry) → Came m (x ∷ b) y
         → CameBody m (x ∷ b) (andThen y (λ e. mapped (λ es. e ∷ es) (bodyFrom f m (at + entryLength e) (drop (entryLength e) (x ∷ b)))))
     go ih (refused c) w = tt
-    go ih (read e) w = came-more m (x ∷ b) e (bodyFrom f m (at + entryLength e) (drop (entryLength e) (x ∷ b))) (w .0) (w .1) (ih e)
+    go ih (read e) w = came-more m (x ∷ b) e (bodyFrom f m (at + entryLength e) (drop (entryLength e) (x ∷ b))) (w .0) (w .1) (ih e (w .1))
 
 pub body-came : (m : Limits) (at : ℕ) (b : List ℕ) → Bytes b → CameBody m b (bodyEntries m at b)
 unfolding bodyEntries

@@ -13,7 +13,6 @@ pub mod HeadTurn
 pub mod Joined
 pub mod Laid
 pub mod Layout
-pub mod Object
 pub mod OneByOne
 pub mod OrderingAt
 pub mod OrderingLaws

@@ -9,8 +9,7 @@ use lib.Seq.{take-at, drop-at, drop-drop}
 use borrow.Author.Tests.{lt-ltb, eq-eqb, ne-eqb}
 use Rattle.codec.specs.declared.Position.{Position}
 use Rattle.codec.specs.declared.Op.{Op}
-use Rattle.codec.specs.declared.Op.the-variants.{Read, Write}
-use Rattle.codec.specs.Encode.{startTwo, cell, cells, head, section, ordering, access, opLength, startTwo-length, ordering-length, access-length, section-length, cells-length, head-length}
+use Rattle.codec.specs.Encode.{startTwo, cell, cells, head, section, ordering, access, startTwo-length, ordering-length, access-long, section-length, cells-length, head-length}
 use Rattle.codec.specs.Field.{le2, le4, field2, field4, field4-le4}
 use Rattle.codec.specs.Kind.{headKind}
 use Rattle.codec.specs.Head.{headLength}
@@ -22,7 +21,7 @@ use Rattle.reader.specs.declared.Limits.{Limits}
 use Rattle.reader.specs.declared.Span.{Span}
 use Rattle.reader.specs.Reading.{read, stop}
 use Rattle.reader.specs.Recording.{Entry, Recording}
-use Rattle.reader.specs.Bytes.{orderingsBytes, entryBytes, entryLength, entry-long, entry-length, bodyBytes, sectionsBytes, bytesOf}
+use Rattle.reader.specs.Bytes.{orderingsBytes, entryBytes, entryLength, entry-length, entry-some, bodyBytes, sectionsBytes, bytesOf}
 use Rattle.reader.specs.Range.{PositionIn, OpIn, OrderingsIn, EntryIn, EntriesIn, BodyIn, BodiesIn, AllUnder, HeadIn, InRange}
 use Rattle.reader.specs.Entry.{orderingOk, accessOk, onRecord, accessOf, entryOf, entry-ordering, entry-step}
 use Rattle.reader.specs.Body.{bodyEntries, body-end, body-step}
@@ -40,16 +39,10 @@ position-ok m p i = rw (lt-ltb (p .task) (m .tasks) (i .below), ne-eqb (p .task)
 
 op-ok : (m : Limits) (o : Op) → OpIn m o → accessOk m o ≡ true
 unfolding accessOk
-op-ok m (Read o) i = lt-ltb o (m .objects) i
-op-ok m (Write o v) i = lt-ltb o (m .objects) (i .0)
+op-ok m o i = lt-ltb (o .object) (m .objects) (i .below)
 
 op-fits : (m : Limits) (o : Op) → Small m → OpIn m o → FitsOp o
-op-fits m (Read o) s i = omega (arith, s .objects)
-op-fits m (Write o v) s i = (omega (arith, s .objects, i .0), i .1)
-
-op-some : (o : Op) → 6 ≤ opLength o
-op-some (Read o) = omega arith
-op-some (Write o v) = omega arith
+op-fits m o s i = record { access = i .access; object = omega (arith, s .objects, i .below); value = i .fits; none = i .none }
 
 module _ (m : Limits) (s : Small m) where
   -- an access with its orderings, whatever follows
@@ -57,7 +50,7 @@ module _ (m : Limits) (s : Small m) where
       → entryOf m ended at (orderingsBytes ps ++ (access o ++ r)) ≡ read (record { orderings = ps; op = o })
   unfolding orderingsBytes onRecord accessOf
   orderings-back ended at [] o r i j =
-      entry-step m ended at (access o ++ r) (omega (arith, length-append (access o) r, access-length o, op-some o))
+      entry-step m ended at (access o ++ r) (omega (arith, length-append (access o) r, access-long o))
       ∙ rw (read-access inBody o r (op-fits m o s j), op-ok m o j)
   orderings-back ended at (p ∷ ps) o r i j =
       let l : List ℕ = orderingsBytes ps ++ (access o ++ r) in
@@ -73,8 +66,8 @@ module _ (m : Limits) (s : Small m) where
   unfolding bodyBytes
   body-back at [] i = body-end m at [] refl
   body-back at (e ∷ es) i =
-      body-step m at (entryBytes e ++ bodyBytes es) (omega (arith, length-append (entryBytes e) (bodyBytes es), entry-length e, entry-long e))
-      ∙ rw (entry-back (stop inBody at) at e (bodyBytes es) (i .0), drop-at (entryBytes e) (bodyBytes es) (entryLength e) (entry-length e), body-back (at + entryLength e) es (i .1))
+      body-step m at (entryBytes e ++ bodyBytes es) (omega (arith, length-append (entryBytes e) (bodyBytes es), entry-some e))
+      ∙ rw (entry-back (stop inBody at) at e (bodyBytes es) (i .0), drop-at (entryBytes e) (bodyBytes es) (entryLength e) (entry-length e (i .0 .op .access)), body-back (at + entryLength e) es (i .1))
 
 -- where the bodies of the sections stand, the first section at a place
 unfoldable pub placed : ℕ → List (List Entry) → List TaskBody

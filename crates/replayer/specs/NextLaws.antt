@@ -7,11 +7,12 @@ use native.Mathlib.Omega.{arith}
 use lib.ListN.{length}
 use Rattle.codec.specs.declared.Op.{Op}
 use Rattle.codec.specs.Decide.{passes, fails, split}
+use Rattle.codec.specs.Kind.{isAccess}
 use Rattle.codec.specs.Number.{inBody}
 use Rattle.reader.specs.declared.Checked.{Checked}
 use Rattle.reader.specs.Bytes.{entryLength, entry-long}
+use Rattle.reader.specs.Entry.{entry-access}
 use Rattle.reader.specs.EntryCase.{Entered, entry-entered}
-use Rattle.reader.specs.Object.{objectOf}
 use Rattle.reader.specs.Part.{part, part-length}
 use Rattle.reader.specs.Positive.{entry-positive}
 use Rattle.reader.specs.Reading.{Reading, refused, read, stop, Positive}
@@ -60,7 +61,12 @@ module _ (r : Run) (b : List ℕ) (t : ℕ) where
   entered o n h = entry-entered (limitsOf r t) (stop inBody (taskAt (r .runs) t .place)) (taskAt (r .runs) t .place)
       (part (taskAt (r .runs) t .place) (taskAt (r .runs) t .end) b) (next-entry o n h .entry) (next-entry o n h .reads)
 
-  pub next-below : (o : Op) (n : ℕ) → nextOf r b t ≡ Open o n → objectOf o < r .objects
+  access : (o : Op) (n : ℕ) (h : nextOf r b t ≡ Open o n) → isAccess (next-entry o n h .entry .op .kind) ≡ true
+  unfolding entryNext
+  access o n h = entry-access (limitsOf r t) (stop inBody (taskAt (r .runs) t .place)) (taskAt (r .runs) t .place)
+      (part (taskAt (r .runs) t .place) (taskAt (r .runs) t .end) b) (next-entry o n h .entry) (next-entry o n h .reads)
+
+  pub next-below : (o : Op) (n : ℕ) → nextOf r b t ≡ Open o n → o .object < r .objects
   next-below o n h = rw (next-entry o n h .op) (entered o n h .below)
 
   pub next-within : (o : Op) (n : ℕ) → nextOf r b t ≡ Open o n → taskAt (r .runs) t .end ≤ length b → (taskAt (r .runs) t .place < n) × (n ≤ taskAt (r .runs) t .end)
@@ -68,7 +74,7 @@ module _ (r : Run) (b : List ℕ) (t : ℕ) where
       let w = next-entry o n h in
       let l = part-length (taskAt (r .runs) t .place) (taskAt (r .runs) t .end) b k in
       let g = entered o n h .within in
-      let s = entry-long (w .entry) in
+      let s = entry-long (w .entry) (access o n h) in
       let e = w .next in
       (omega arith, omega arith)
 

@@ -1,9 +1,8 @@
 // What a step does: the tests before the bytes, the access on the memory, the run's move, and the answers.
 ghost use mathlib.Core.Path.{_≡_};
 ghost use Prim.Native.Nat.{_+_, _<_};
-ghost use Rattle.reader.specs.Object.{objectOf};
 ghost use Rattle.replayer.specs.Run.{taskAt, doneOf, movedOf};
-ghost use Rattle.replayer.specs.Memory.{kindOf, valueOf, performed};
+ghost use Rattle.replayer.specs.Memory.{valueOf, performed};
 ghost use Rattle.replayer.specs.StepOf.{refusedStep, barredOf, haltOf, onNext};
 use crate::Run;
 use crate::Stepped;
@@ -11,8 +10,7 @@ use crate::TaskRun;
 use crate::next::Next;
 use crate::sound::sound;
 use codec::Op;
-use codec::kind::READ;
-use codec::kind::WRITE;
+use codec::kind::writes;
 use codec::number::ENTRIES;
 use codec::number::FINISHED;
 use codec::number::HELD;
@@ -71,49 +69,23 @@ pub(crate) fn halt(n: Next) -> Checked
     }
 }
 
-// The kind of an access's record.
-fn kind_of(op: Op) -> u16
-    ensures { λ r. ⌜ r ≡ kindOf op ⌝ }
-{
-    match op {
-        Op::Read(_) => READ,
-        Op::Write(_, _) => WRITE,
-    }
-}
-
-// The object that an access names.
-fn object_of(op: Op) -> usize
-    ensures { λ r. ⌜ r ≡ objectOf op ⌝ }
-{
-    match op {
-        Op::Read(object) => object as usize,
-        Op::Write(object, _) => object as usize,
-    }
-}
-
-// A read gives the memory's value, a write stores and gives its own. An object that the memory has no entry for reads as 0, and nothing
-// is stored for it.
+// A read gives the memory's value, a write stores and gives its own. Past the memory's end nothing is stored, and 0 stands there.
 pub fn perform(op: Op, memory: &mut [u32]) -> u32
     ensures { λ r. ⌜ r ≡ valueOf op (now (memory .entry)) ⌝ }
     ensures { λ r. ⌜ now (memory .exit) ≡ performed op (now (memory .entry)) ⌝ }
 {
-    match op {
-        Op::Read(object) => {
-            let o = object as usize;
-            if memory.len() <= o {
-                return 0;
-            }
-            memory[o]
-        }
-        Op::Write(object, value) => {
-            let o = object as usize;
-            if memory.len() <= o {
-                return value;
-            }
+    let o = op.object as usize;
+    let value = op.value;
+    if writes(op.kind) {
+        if o < memory.len() {
             memory[o] = value;
-            value
         }
+        return value;
     }
+    if o < memory.len() {
+        return memory[o];
+    }
+    0
 }
 
 // The task goes on to a place, with one more access done, `access` in all; no other task moves.
@@ -146,12 +118,13 @@ pub(crate) fn taken(run: Run, memory: &mut [u32], task: usize, op: Op, next: usi
     let x = run.runs[task];
     let access = x.done + 1;
     let value = perform(op, memory);
+    let object = op.object as usize;
     let after = moved(run, task, next, access);
     Stepped {
         number: 0,
         offset: 0,
-        kind: kind_of(op),
-        object: object_of(op),
+        kind: op.kind,
+        object,
         value,
         access,
         run: after,

@@ -1,11 +1,12 @@
 -- The runs on the bench that concern bytes alone (document 01, "Runs on the bench", marked P), by computation.
+use mathlib.Core.Bool.{false}
 use mathlib.Core.Path.{_≡_, refl}
 use mathlib.Core.List.{[], _∷_, _++_}
 use lib.ListN.{length, take}
-use Rattle.codec.specs.declared.Op.the-variants.{Read}
 use Rattle.codec.specs.Decode.{recordOf, headOf, sectionOf, bodyOf as fieldsOf}
 use Rattle.codec.specs.Limit.{isWithin}
-use Rattle.codec.specs.Encode.{start, startTwo, cell, cells, head, section, ordering, access}
+use Rattle.codec.specs.Encode.{start, startTwo, cell, cells, head, section, ordering, opOf, access}
+use Rattle.codec.specs.Kind.{storesValue}
 use Rattle.codec.specs.Field.{le2, le4, field2, field4}
 use Rattle.reader.specs.Reading.{stop}
 use Rattle.reader.specs.Recording.{Recording}
@@ -22,7 +23,7 @@ smallest = record { tasks = 1; owners = 0 ∷ []; values = 0 ∷ []; bodies = []
 
 -- an ordering with source number 0
 abbrev zeroth : Recording
-zeroth = record { tasks = 2; owners = 0 ∷ []; values = 0 ∷ []; bodies = (record { orderings = record { task = 1; number = 0 } ∷ []; op = Read 0 } ∷ []) ∷ [] ∷ [] }
+zeroth = record { tasks = 2; owners = 0 ∷ []; values = 0 ∷ []; bodies = (record { orderings = record { task = 1; number = 0 } ∷ []; op = opOf false 0 0 } ∷ []) ∷ [] ∷ [] }
 
 pub record Bytes : Type 0 where
   pub none : checkedOf (parse []) ≡ stop 10 0
@@ -33,5 +34,5 @@ pub record Bytes : Type 0 where
   pub from-zero : checkedOf (parse (bytesOf zeroth)) ≡ stop 13 25
 
 pub bytes : Bytes
-unfolding isWithin checkedOf parse headAt onHead sectionsAfter sectionsOf sectionAt onSection sectionBody taken bodyEntries bodyFrom entryOf entryFrom onRecord accessOf accessOk orderingOk ownersOf valuesOf allBelow sizesOk recordOf headOf sectionOf fieldsOf start startTwo cell cells head section ordering access le2 le4 field2 field4 orderingsBytes entryBytes bodyBytes sectionsBytes bytesOf
+unfolding isWithin checkedOf parse headAt onHead sectionsAfter sectionsOf sectionAt onSection sectionBody taken bodyEntries bodyFrom entryOf entryFrom onRecord accessOf accessOk orderingOk ownersOf valuesOf allBelow sizesOk recordOf headOf sectionOf fieldsOf start startTwo cell cells head section ordering opOf access storesValue le2 le4 field2 field4 orderingsBytes entryBytes bodyBytes sectionsBytes bytesOf
 bytes = record { none = refl; size = refl; whole = refl; cut = refl; longer = refl; from-zero = refl }

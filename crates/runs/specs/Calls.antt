@@ -3,8 +3,9 @@ use mathlib.Core.Path.{_≡_, refl}
 use mathlib.Core.List.{List, [], _∷_, _++_}
 use Prim.Native.Nat.{ℕ}
 use lib.ListN.{length, replicate}
-use Rattle.codec.specs.Encode.{start, startTwo, cell, cells, head, section, ordering, access}
+use Rattle.codec.specs.Encode.{start, startTwo, cell, cells, head, section, ordering, opOf, access}
 use Rattle.codec.specs.Field.{le2, le4, field2, field4}
+use Rattle.codec.specs.Kind.{storesValue}
 use Rattle.codec.specs.Decode.{recordOf, headOf, sectionOf as sectionRecordOf, bodyOf as fieldsOf}
 use Rattle.codec.specs.Store.{store}
 use Rattle.reader.specs.Bytes.{orderingsBytes, entryBytes}
@@ -72,7 +73,7 @@ pub record Calls : Type 0 where
   pub ten-bytes : row-one 10 (opened-box 2) ≡ 0
 
 pub calls : Calls
-unfolding openOf opened openNumber entriesOk allBelow openedState ownedRecords outcome called calledAll packed accessOf accessNumber checked accepted refused soundOf lastSound taskSound tasksSound objectSound sumOf isWithin allPass rowOf orderingsOf everyDone written leftOut nextOf localityAfter effectOf classOf store orderingsBytes entryBytes ordering access start startTwo le2 le4 head cell cells section sectionOf sectionChecked logChecked walkOf judged tally bodyEntries bodyFrom readEntry entryFrom onRecord accessRecordOf accessOk orderingOk recordOf headOf sectionRecordOf fieldsOf field2 field4 checkedOf parse headAt onHead sectionsAfter sectionsOf sectionAt onSection sectionBody taken ownersOf valuesOf sizesOk
+unfolding openOf opened openNumber entriesOk allBelow openedState ownedRecords outcome called calledAll packed accessOf accessNumber checked accepted refused soundOf lastSound taskSound tasksSound objectSound sumOf isWithin allPass rowOf orderingsOf everyDone written leftOut nextOf localityAfter effectOf classOf store orderingsBytes entryBytes ordering opOf access storesValue start startTwo le2 le4 head cell cells section sectionOf sectionChecked logChecked walkOf judged tally bodyEntries bodyFrom readEntry entryFrom onRecord accessRecordOf accessOk orderingOk recordOf headOf sectionRecordOf fieldsOf field2 field4 checkedOf parse headAt onHead sectionsAfter sectionsOf sectionAt onSection sectionBody taken ownersOf valuesOf sizesOk
 calls = record {
   a-body-0 = refl;
   a-body-1 = refl;

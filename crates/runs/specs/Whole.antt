@@ -4,8 +4,9 @@ use mathlib.Core.List.{List, [], _∷_}
 use Prim.Native.Nat.{ℕ}
 use lib.ListN.{replicate}
 use Rattle.codec.specs.Decode.{recordOf, headOf, sectionOf as sectionOf-codec-decode, bodyOf as bodyOf-codec-decode}
-use Rattle.codec.specs.Encode.{ordering, access, start, startTwo, head, cell, cells, section}
+use Rattle.codec.specs.Encode.{ordering, opOf, access, start, startTwo, head, cell, cells, section}
 use Rattle.codec.specs.Field.{le2, le4, field2, field4}
+use Rattle.codec.specs.Kind.{storesValue, writes}
 use Rattle.codec.specs.Store.{store}
 use Rattle.reader.specs.Body.{walkOf, judged, tally, bodyEntries, bodyFrom}
 use Rattle.reader.specs.Bytes.{orderingsBytes, entryBytes, bodyBytes, sectionsBytes, bytesOf}
@@ -72,5 +73,5 @@ pub record Whole : Type 0 where
   pub end-taken : tallySteps bytes (bench []) (0 ∷ 1 ∷ 0 ∷ 1 ∷ []) ≡ 4
 
 pub whole : Whole
-unfolding openOf opened openNumber entriesOk allBelow openedState ownedRecords outcome called calledAll packed accessOf accessNumber checked accepted refused soundOf lastSound taskSound tasksSound objectSound sumOf isWithin allBelow-tracker-range rowOf orderingsOf everyDone written leftOut nextOf localityAfter effectOf classOf store orderingsBytes entryBytes ordering access start startTwo le2 le4 head cell cells section sectionOf sectionChecked logChecked walkOf judged tally bodyEntries bodyFrom entryOf entryFrom onRecord accessOf-reader-entry accessOk orderingOk recordOf headOf sectionOf-codec-decode bodyOf-codec-decode field2 field4 checkedOf parse headAt onHead sectionsAfter sectionsOf sectionAt onSection sectionBody taken ownersOf valuesOf sizesOk bodyBytes sectionsBytes bytesOf part allFrom taskSound-replayer-sound soundOf-replayer-sound allMet movedOf entryNext judged-replayer-next nextOf-replayer-next wordOf isReady readyOf startsOf onParse openOf-replayer-openof barredOf onNext stepOf recordedFrom steppedAll tallySteps
+unfolding openOf opened openNumber entriesOk allBelow openedState ownedRecords outcome called calledAll packed accessOf accessNumber checked accepted refused soundOf lastSound taskSound tasksSound objectSound sumOf isWithin allBelow-tracker-range rowOf orderingsOf everyDone written leftOut nextOf localityAfter effectOf classOf store orderingsBytes entryBytes ordering opOf access storesValue writes start startTwo le2 le4 head cell cells section sectionOf sectionChecked logChecked walkOf judged tally bodyEntries bodyFrom entryOf entryFrom onRecord accessOf-reader-entry accessOk orderingOk recordOf headOf sectionOf-codec-decode bodyOf-codec-decode field2 field4 checkedOf parse headAt onHead sectionsAfter sectionsOf sectionAt onSection sectionBody taken ownersOf valuesOf sizesOk bodyBytes sectionsBytes bytesOf part allFrom taskSound-replayer-sound soundOf-replayer-sound allMet movedOf entryNext judged-replayer-next nextOf-replayer-next wordOf isReady readyOf startsOf onParse openOf-replayer-openof barredOf onNext stepOf recordedFrom steppedAll tallySteps
 whole = record { size = refl; first-word = refl; second-word = refl; held = refl; end-word = refl; end-memory = refl; end-taken = refl }

@@ -2,8 +2,7 @@
 use mathlib.Core.Bool.{Bool, cond}
 use mathlib.Core.List.{List, [], _∷_, _++_}
 use Prim.Native.Nat.{ℕ}
-use lib.Dec.{eqb}
-use Rattle.codec.specs.Kind.{readKind}
+use Rattle.codec.specs.Kind.{reads}
 use Rattle.replayer.specs.declared.Stepped.{Stepped}
 use Rattle.text.specs.Decimal.{decimalOf, fieldOf}
 
@@ -17,7 +16,7 @@ refusalOf number offset = (114 ∷ 101 ∷ 102 ∷ 117 ∷ 115 ∷ 101 ∷ 100 �
 
 -- R for a read, else W
 abbrev pub letterOf : ℕ → ℕ
-letterOf kind = cond (eqb kind readKind) 82 87
+letterOf kind = cond (reads kind) 82 87
 
 -- task, number of the access, R or W, object, value, with single spaces between them
 unfoldable pub lineOf : ℕ → Stepped → List ℕ

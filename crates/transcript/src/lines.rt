@@ -4,7 +4,7 @@ ghost use Prim.Native.Nat.{_+_, _≤_};
 ghost use lib.ListN.{length};
 ghost use Rattle.text.specs.Appended.{Appended};
 ghost use Rattle.transcript.specs.Lines.{letterOf, lineOf, endOf, refusalOf, memoryOf};
-use codec::kind::READ;
+use codec::kind::reads;
 use replayer::Stepped;
 use text::put_byte;
 use text::put_bytes;
@@ -14,7 +14,7 @@ use text::put_number;
 fn letter(kind: u16) -> u8
     ensures { λ r. ⌜ r ≡ letterOf kind ⌝ }
 {
-    if kind == READ { b'R' } else { b'W' }
+    if reads(kind) { b'R' } else { b'W' }
 }
 
 // Task, number of the access, R or W, object, value.

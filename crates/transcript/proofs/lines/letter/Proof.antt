@@ -1,12 +1,16 @@
-use borrow.Author.Tests.{eq-eqb, ne-eqb}
+use mathlib.Core.Path.{sym, _∙_}
+use borrow.Author.Needs.{needs}
 use Rattle.transcript.proofs.lines.letter.Statement.{statement}
 use Rattle.transcript.proofs.lines.letter.Tie as tie
 
+reads-requires : tie.Need-reads-requires
+reads-requires c κs = search needs
+
 returns : tie.Need-returns
-returns c = rw (eq-eqb (c .before .args .kind) 4 (c .if1 .taken))
+returns c = rw (sym (c .before .reads .ensures) ∙ c .if1 .taken)
 
 returns-2 : tie.Need-returns-2
-returns-2 c = rw (ne-eqb (c .before .args .kind) 4 (c .if1 .left))
+returns-2 c = rw (sym (c .before .reads .ensures) ∙ c .if1 .left)
 
 pub letter-spec : {M : Type 1} → statement M
-letter-spec = tie.close (tie.spec returns returns-2)
+letter-spec = tie.close (tie.spec reads-requires returns returns-2)
