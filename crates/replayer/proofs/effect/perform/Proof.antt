@@ -12,9 +12,6 @@ cast-o c = search needs
 writes-requires : tie.Need-writes-requires
 writes-requires c κs = search needs
 
-returns-2 : tie.Need-returns-2
-returns-2 c = rw (c .before .before .op2 .given .1) (refl, sym (set-out _ _ _ (c .if2 .taken)))
-
 mul-memory : tie.Need-mul-memory
 mul-memory c = search needs
 

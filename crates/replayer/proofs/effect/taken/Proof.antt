@@ -17,21 +17,18 @@ add-access c = omega (arith, c .before .before .before .pre .1, c .struct-known 
 perform-requires : tie.Need-perform-requires
 perform-requires c κs = search needs
 
+cast-object : tie.Need-cast-object
+cast-object c = search needs
+
 moved-requires : tie.Need-moved-requires
-moved-requires c κs = (c .before .before .before .before .before .before .before .pre .0, refl)
-
-kind-of-requires : tie.Need-kind-of-requires
-kind-of-requires c κs = search needs
-
-object-of-requires : tie.Need-object-of-requires
-object-of-requires c κs = search needs
+moved-requires c κs = (c .before .before .before .before .before .before .before .before .pre .0, refl)
 
 same-length : tie.Need-same-length
-same-length c = c .before .before .before .before .before .perform .kept .1 .0
+same-length c = c .before .before .before .before .perform .kept .1 .0
 
 returns : tie.Need-returns
 unfolding onNext
-returns c = let p = c .before .before .before .before .before .perform .ensures in (rw (c .object-of .ensures, c .before .kind-of .ensures, c .before .before .moved .ensures, p .0), p .1)
+returns c = let p = c .before .before .before .before .perform .ensures in (rw (c .moved .ensures, p .0), p .1)
 
 pub taken-spec : {M : Type 1} → statement M
 taken-spec =
@@ -41,8 +38,7 @@ taken-spec =
     element-copy-out-x
     add-access
     perform-requires
+    cast-object
     moved-requires
-    kind-of-requires
-    object-of-requires
     same-length
     returns)
