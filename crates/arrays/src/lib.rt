@@ -5,7 +5,7 @@
 // A run's places are T and N, then for each task its place, end, done and count.
 ghost use mathlib.Core.Path.{_≡_};
 ghost use Rattle.codec.specs.Store.{store};
-ghost use Rattle.tracker.specs.Marks.{marksOf};
+ghost use Rattle.tracker.specs.Laws.Marks.{marksOf};
 ghost use Rattle.replayer.specs.Each.{each};
 ghost use Rattle.arrays.specs.Halves.{recordOf, recordIn, stateIn, caseOf, casesOf, holdersOf, sharesOf, firstOf, halvesOf, wordsOf};
 ghost use Rattle.arrays.specs.Places.{runIn, placesOf};

@@ -1,4 +1,3 @@
-pub mod Decide
 pub mod Decode
 pub mod Encode
 pub mod Field
@@ -6,8 +5,5 @@ pub mod Head
 pub mod Kind
 pub mod Limit
 pub mod Number
-pub mod Roundtrip
 pub mod Store
-pub mod Strict
-pub mod Within
-pub mod Zeros
+pub mod Laws

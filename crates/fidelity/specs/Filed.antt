@@ -1,18 +1,13 @@
 -- A history's entries as they stand in a recording (document 01, "Records"): per task its accesses with their orderings, oldest first.
 use mathlib.Core.Bool.{true, false, cond}
-use mathlib.Core.Path.{_≡_, sym, _∙_}
 use mathlib.Core.List.{List, [], _∷_, _++_}
 use Prim.Native.Nat.{ℕ, zero, suc}
-use native.Mathlib.Omega.{arith}
-use native.Mathlib.Decide.{ℕ-discrete}
-use borrow.Author.Tests.{eq-eqb, ne-eqb}
 use lib.Dec.{eqb}
-use lib.ListN.{length, length-append}
 use Rattle.codec.specs.declared.Op.{Op}
 use Rattle.codec.specs.Encode.{opOf}
 use Rattle.reader.specs.Recording.{Entry as FileEntry}
 use Rattle.history.specs.Entry.{Act, read, write, acquire, Entry}
-use Rattle.history.specs.History.{History, count, count-none, count-own, count-other}
+use Rattle.history.specs.History.{History}
 
 abbrev pub filedOp : Act → Op
 filedOp (read c v) = opOf false c v
@@ -31,12 +26,3 @@ filedOf t (e ∷ g) = cond (eqb (e .task) t) (filedOf t g ++ (filed e ∷ [])) (
 unfoldable pub bodiesFrom : History → ℕ → ℕ → List (List FileEntry)
 bodiesFrom h t zero = []
 bodiesFrom h t (suc k) = filedOf t h ∷ bodiesFrom h (suc t) k
-
--- as many as the task has made
-pub filed-count : (t : ℕ) (h : History) → length (filedOf t h) ≡ count t h
-unfolding filedOf
-filed-count t [] = sym (count-none t)
-filed-count t (e ∷ g) = elim (ℕ-discrete (e .task) t) [
-  | yes p ↦ rw (eq-eqb (e .task) t p, length-append) (omega (arith, filed-count t g, count-own t e g p))
-  | no p ↦ rw (ne-eqb (e .task) t p) (filed-count t g ∙ sym (count-other t e g p))
-]

@@ -1,11 +1,8 @@
-pub mod Number
-pub mod Found
-pub mod Words
-pub mod Fields
-pub mod FieldsTurn
-pub mod Lines
 pub mod AccessLines
 pub mod Asked
+pub mod Fields
+pub mod Lines
+pub mod Number
 pub mod Rows
-pub mod RowTurn
-pub mod AskedTurn
+pub mod Words
+pub mod Laws

@@ -1,10 +1,7 @@
 -- The numbers of an answer, in the order of its struct's fields, as a call stores them from the start of `answer` on. A state or a run
 -- is not among them: it has arrays of its own.
-use mathlib.Core.Bool.{Bool, true, false}
 use mathlib.Core.List.{List, [], _∷_}
-use mathlib.Core.Path.{_≡_, refl}
 use Prim.Native.Nat.{ℕ}
-use mir.Val.{boolByte}
 use Rattle.reader.specs.declared.Checked.{Checked}
 use Rattle.recorder.specs.declared.Opened.{Opened}
 use Rattle.recorder.specs.declared.Accessed.{Accessed}
@@ -55,8 +52,3 @@ sameNumbers a = a .number ∷ a .offset ∷ bit (a .alike) ∷ []
 
 abbrev pub toEndNumbers : Replayed → List ℕ
 toEndNumbers a = a .number ∷ a .offset ∷ a .steps ∷ bit (a .finished) ∷ []
-
--- a bool that is cast is its bit
-pub bool-bit : (b : Bool) → boolByte b ≡ bit b
-bool-bit true = refl
-bool-bit false = refl

@@ -1,3 +1,3 @@
 pub mod Answers
 pub mod CopyOf
-pub mod CopyLaws
+pub mod Laws

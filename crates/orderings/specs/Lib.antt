@@ -1,2 +1,3 @@
 pub mod LogTurn
 pub mod Orders
+pub mod Laws

@@ -1,16 +1,5 @@
 pub mod Alike
-pub mod AlikeTurn
-pub mod Columns
-pub mod ColumnsLaws
-pub mod ColumnsTurn
 pub mod Finish
-pub mod FinishLaws
-pub mod FinishTurn
-pub mod Lowest
-pub mod LowestLaws
 pub mod Schedule
-pub mod ScheduleLaws
-pub mod ScheduleTurn
 pub mod ToEnd
-pub mod ToEndTurn
-pub mod Visit
+pub mod Laws

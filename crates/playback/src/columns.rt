@@ -1,6 +1,6 @@
 // A run as columns: of each field of its tasks one array, which is lent where a run by value would be copied.
 ghost use mathlib.Core.Path.{_≡_};
-ghost use Rattle.playback.specs.Columns.{columnsOf};
+ghost use Rattle.playback.specs.Laws.Columns.{columnsOf};
 use replayer::Run;
 
 pub(crate) struct Columns {

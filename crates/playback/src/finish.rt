@@ -1,9 +1,9 @@
 // A run played on, the lowest ready task first, until no task is ready; and whether a run has finished.
 ghost use mathlib.Core.Path.{_≡_};
 ghost use Prim.Native.Nat.{_<_};
-ghost use Rattle.playback.specs.Columns.{allDoneOf};
+ghost use Rattle.playback.specs.Laws.Columns.{allDoneOf};
 ghost use Rattle.playback.specs.Finish.{leftOver, finishOf, shownPlay, finishedCall};
-ghost use Rattle.playback.specs.FinishLaws.{Playing};
+ghost use Rattle.playback.specs.Laws.Finish.{Playing};
 use crate::columns::columns_of;
 use crate::lowest::NextStep;
 use crate::lowest::lowest;

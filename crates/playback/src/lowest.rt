@@ -1,8 +1,8 @@
 // The lowest ready task of a run that columns hold: every play asks for it, and its task goes on.
 ghost use mathlib.Core.Path.{_≡_};
-ghost use Rattle.playback.specs.Columns.{runOf};
-ghost use Rattle.playback.specs.ColumnsTurn.{Columned};
-ghost use Rattle.playback.specs.Lowest.{lowestOf, afterOf};
+ghost use Rattle.playback.specs.Laws.Columns.{runOf};
+ghost use Rattle.playback.specs.Laws.ColumnsCode.{Columned};
+ghost use Rattle.playback.specs.Laws.Lowest.{lowestOf, afterOf};
 use crate::visit::visit;
 use codec::Op;
 use reader::Limits;

@@ -3,8 +3,8 @@
 ghost use Prim.Native.Nat.{_≤_, _<_};
 ghost use lib.ListN.{length, getD};
 ghost use Rattle.replayer.specs.declared.Run.{Run};
-ghost use Rattle.replayer.specs.Look.{OneTask};
-ghost use Rattle.playback.specs.Visit.{Note, Noted, Visited};
+ghost use Rattle.replayer.specs.Laws.Look.{OneTask};
+ghost use Rattle.playback.specs.Laws.Visit.{Note, Noted, Visited};
 use reader::Limits;
 use replayer::TaskRun;
 use replayer::next::Next;

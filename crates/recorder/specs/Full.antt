@@ -1,119 +1,23 @@
 -- The run on the bench with 65,535 accesses (document 01, marked P): that one is taken, the next gives 8. From a state reached by a
 -- list of calls, by a law and not by computing them.
-use mathlib.Core.Path.{_≡_, refl, ap, _∙_}
-use mathlib.Core.Bool.{false}
+use mathlib.Core.Path.{_≡_}
 use mathlib.Core.List.{[], _∷_}
-use Prim.Native.Nat.{ℕ, zero, suc, _+_, _≤_, _<_}
-use native.Mathlib.Omega.{arith}
-use borrow.Author.Tests.{lt-leb, le-leb}
-use lib.ListN.{length, replicate}
-use Rattle.reader.specs.Parse.{allBelow}
-use Rattle.tracker.specs.Facts.{Sound, sound-test}
-use Rattle.tracker.specs.Kept.{next-facts}
-use Rattle.tracker.specs.After.{next-tasks, next-objects, next-shaped, next-done}
-use Rattle.tracker.specs.Opened.{openedState, opened-facts, opened-shaped}
-use Rattle.codec.specs.Limit.{isWithin}
-use Rattle.tracker.specs.State.{Shaped, doneOf}
-use Rattle.recorder.specs.AccessOf.{checked, accessNumber, accepted, refused, accessOf}
-use Rattle.recorder.specs.Accepted.{Takes, takes-accepted, entry-bound}
-use Rattle.recorder.specs.OpenOf.{entriesOk, openNumber, OpenOutcome, opened, openOf}
-use Rattle.recorder.specs.WholeRun.{AccessCall, Call, Box, outcome, called, calledAll}
+use lib.ListN.{replicate}
+use Rattle.recorder.specs.OpenOf.{OpenOutcome, openOf}
+use Rattle.recorder.specs.WholeRun.{AccessCall, Call, Box, outcome, calledAll}
 
 -- task 0 reads object 0
-abbrev again : AccessCall
+abbrev pub again : AccessCall
 again = record { task = 0; object = 0; sort = 0; value = 0; out = replicate 138 0 }
 
--- one task and one object, n accesses made
-record Stands (b : Box) (n : ℕ) : Type 0 where
-  pub sound : Sound (b .state)
-  pub shaped : Shaped (b .state)
-  pub tasks : b .state .tasks ≡ 1
-  pub objects : b .state .objects ≡ 1
-  pub memory : length (b .memory) ≡ 1
-  pub done : doneOf (b .state) 0 ≡ n
-
-takes : (b : Box) (n : ℕ) → Stands b n → n < 65535 → Takes (b .state) 0 0 0 0 (b .memory) (replicate 138 0)
-takes b n w h = record {
-  facts = record {
-    sound = w .sound;
-    accepts = record { task-low = omega (arith, w .tasks); object-low = omega (arith, w .objects); more = omega (arith, w .done) };
-    sort-known = omega arith;
-    memory-each = omega (arith, w .memory, w .objects);
-  };
-  room = omega (arith, entry-bound (b .state) 0 0 false 0 (omega (arith, w .tasks)));
-}
-
-stands-more : (b : Box) (n : ℕ) → Stands b n → n < 65535 → Stands (called b again) (n + 1)
-unfolding called outcome accepted
-stands-more b n w h =
-    let t = takes b n w h in
-    rw (takes-accepted (b .state) 0 0 0 0 (b .memory) (replicate 138 0) t) (record {
-      sound = next-facts (b .state) 0 0 _ (w .shaped) (w .sound) (t .facts .accepts);
-      shaped = next-shaped (b .state) 0 0 _ (w .shaped);
-      tasks = next-tasks (b .state) 0 0 _ ∙ w .tasks;
-      objects = next-objects (b .state) 0 0 _ ∙ w .objects;
-      memory = w .memory;
-      done = next-done (b .state) 0 0 _ (w .shaped) (omega arith) ∙ ap (λ (k : ℕ). k + 1) (w .done);
-    })
-
-stands-all : (k n : ℕ) (b : Box) → Stands b n → n + k ≤ 65535 → Stands (calledAll b (replicate k (Call.access again))) (n + k)
-unfolding calledAll
-stands-all zero n b w h = let e : n + 0 ≡ n = omega arith in rw e w
-stands-all (suc k) n b w h =
-    let e : n + suc k ≡ n + 1 + k = omega arith in
-    rw e (stands-all k (n + 1) (called b again) (stands-more b n w (omega arith)) (omega arith))
-
 -- an opening with one task and one object, and the box that it leaves
-abbrev opening : OpenOutcome
+abbrev pub opening : OpenOutcome
 opening = openOf 1 1 (0 ∷ []) (0 ∷ []) (0 ∷ []) (replicate 13 0)
 
-abbrev first : Box
+abbrev pub first : Box
 first = record { state = opening .answer .state; memory = opening .memory; logs = λ t. [] }
-
-first-owner : (o : ℕ) → o < 1 → lib.ListN.getD (0 ∷ []) o 0 < 1
-first-owner zero h = omega arith
-first-owner (suc o) h = absurd (omega arith)
-
-taken : opening .answer .number ≡ 0
-unfolding openOf opened openNumber isWithin entriesOk allBelow
-taken = refl
-
-first-is : first ≡ record { state = openedState 1 1 (0 ∷ []); memory = 0 ∷ []; logs = λ t. [] }
-unfolding openOf opened openNumber isWithin entriesOk allBelow
-first-is = refl
-
-first-stands : Stands first 0
-unfolding openedState
-first-stands = rw first-is (record {
-  sound = opened-facts 1 1 (0 ∷ []) (omega arith) (omega arith) (omega arith) (omega arith) first-owner;
-  shaped = opened-shaped 1 1 (0 ∷ []);
-  tasks = refl;
-  objects = refl;
-  memory = refl;
-  done = refl;
-})
 
 pub record Full : Type 0 where
   pub opening-taken : opening .answer .number ≡ 0
   pub last-taken : outcome (calledAll first (replicate 65534 (Call.access again))) again .answer .number ≡ 0
   pub next-eight : outcome (calledAll first (replicate 65535 (Call.access again))) again .answer .number ≡ 8
-
-taken-at : (b : Box) (n : ℕ) → Stands b n → n < 65535 → outcome b again .answer .number ≡ 0
-unfolding outcome accepted
-taken-at b n w h = rw (takes-accepted (b .state) 0 0 0 0 (b .memory) (replicate 138 0) (takes b n w h))
-
-eight-at : (b : Box) → Stands b 65535 → outcome b again .answer .number ≡ 8
-unfolding outcome accessOf accessNumber checked refused
-eight-at b w = rw (
-  sound-test (b .state) (w .sound),
-  lt-leb (b .state .tasks) 0 (omega (arith, w .tasks)),
-  lt-leb (b .state .objects) 0 (omega (arith, w .objects)),
-  le-leb 65535 (doneOf (b .state) 0) (omega (arith, w .done)),
-)
-
-pub full-run : Full
-full-run = record {
-  opening-taken = taken;
-  last-taken = taken-at (calledAll first (replicate 65534 (Call.access again))) 65534 (stands-all 65534 0 first first-stands (omega arith)) (omega arith);
-  next-eight = eight-at (calledAll first (replicate 65535 (Call.access again))) (stands-all 65535 0 first first-stands (omega arith));
-}

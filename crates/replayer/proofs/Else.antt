@@ -14,8 +14,10 @@ use Rattle.replayer.specs.declared.next.Next.{Next}
 use Rattle.replayer.specs.declared.next.Next.the-variants.{Open, Held, Refused}
 use Rattle.codec.specs.Number.{held}
 use Rattle.reader.specs.Reading.{stop}
-use Rattle.replayer.specs.Next.{refusalOf, isOpen}
-use Rattle.replayer.specs.StepOf.{refusedStep, haltOf, onNext}
+use Rattle.replayer.specs.Laws.Next.{refusalOf}
+use Rattle.replayer.specs.Next.{isOpen}
+use Rattle.replayer.specs.StepOf.{refusedStep, onNext}
+use Rattle.replayer.specs.Laws.StepOf.{haltOf}
 
 pub not-found : (f : Found) → OneOf (1 ∷ []) (tagOf found-type f) → f ≡ FoundRefused (refusalOf f)
 not-found (FoundAccess o a n) h = absurd (miss (1 ∷ []) 0 tt h)

@@ -1,14 +1,9 @@
 -- The counts done of a run's 16 tasks as one list of numbers, which is what the orderings are held to.
-use mathlib.Core.Path.{_≡_}
 use mathlib.Core.List.{List}
-use Prim.Native.Nat.{ℕ, _<_}
-use lib.ListN.{getD}
+use Prim.Native.Nat.{ℕ}
 use Rattle.replayer.specs.declared.TaskRun.{TaskRun}
-use Rattle.replayer.specs.Each.{each, each-at}
+use Rattle.replayer.specs.Each.{each}
 use Rattle.replayer.specs.Run.{doneOf}
 
 abbrev pub donesOf : List TaskRun → List ℕ
 donesOf runs = each (doneOf runs) 16
-
-pub dones-at : (runs : List TaskRun) (t : ℕ) → t < 16 → getD (donesOf runs) t 0 ≡ doneOf runs t
-dones-at runs t h = each-at (doneOf runs) 16 t 0 h

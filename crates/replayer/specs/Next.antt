@@ -5,9 +5,6 @@ use mathlib.Core.Bool.{Bool, true, false, cond}
 use mathlib.Core.List.{List}
 use Prim.Native.Nat.{ℕ, _+_}
 use Rattle.codec.specs.Number.{inBody}
-use Rattle.reader.specs.declared.Checked.{Checked}
-use Rattle.reader.specs.declared.entry.Found.{Found}
-use Rattle.reader.specs.declared.entry.Found.the-variants.{Access as FoundAccess, Refused as FoundRefused}
 use Rattle.reader.specs.Bytes.{entryLength}
 use Rattle.reader.specs.Entry.{entryOf}
 use Rattle.reader.specs.Part.{part}
@@ -19,11 +16,6 @@ use Rattle.replayer.specs.declared.next.Next.{Next}
 use Rattle.replayer.specs.declared.next.Next.the-variants.{Open, Held, Refused}
 use Rattle.replayer.specs.Run.{taskAt, limitsOf}
 use Rattle.replayer.specs.Met.{allMet}
-
--- the reader's number and offset
-abbrev pub refusalOf : Found → Checked
-refusalOf (FoundAccess o a n) = stop 0 0
-refusalOf (FoundRefused c) = c
 
 -- the next entry of a task
 unfoldable pub entryNext : Run → List ℕ → ℕ → Reading Entry

@@ -1,5 +1,6 @@
-pub mod Rows
-pub mod Calls
 pub mod Bytes
-pub mod Whole
+pub mod Calls
+pub mod Rows
 pub mod Table
+pub mod Whole
+pub mod Laws

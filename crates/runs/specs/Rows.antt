@@ -1,14 +1,14 @@
 -- Runs on the bench that concern rows and orderings (document 01, "Runs on the bench", marked P), computed from the table.
 use mathlib.Core.Bool.{Bool, true, false}
 use mathlib.Core.List.{List, [], _∷_}
-use mathlib.Core.Path.{_≡_, refl}
+use mathlib.Core.Path.{_≡_}
 use Prim.Native.Nat.{ℕ}
 use Rattle.codec.specs.declared.Position.{Position}
 use Rattle.tracker.specs.State.{position}
-use Rattle.tracker.specs.Row.{rowOf, rowAt, numberOf}
-use Rattle.tracker.specs.Orderings.{everyDone, orderingsOf, leftOut, written, writtenOf}
-use Rattle.tracker.specs.Next.{localityAfter, effectOf, nextOf}
-use Rattle.tracker.specs.Opened.{ownedRecords, openedState}
+use Rattle.tracker.specs.Row.{rowAt, numberOf}
+use Rattle.tracker.specs.Orderings.{writtenOf}
+use Rattle.tracker.specs.Next.{nextOf}
+use Rattle.tracker.specs.Opened.{openedState}
 use Rattle.tracker.specs.declared.State.{State}
 
 -- an access that is accepted; the value of a read is not looked at
@@ -55,7 +55,3 @@ pub record Rows : Type 0 where
       ≡ tracked 8 [] ∷ tracked 5 (position 1 1 ∷ []) ∷ tracked 8 [] ∷ tracked 5 (position 1 2 ∷ position 2 1 ∷ []) ∷ tracked 3 [] ∷ []
   -- Took and Done differ at row 5: task 1 has made two accesses, and only the first took the object
   pub took : trackedAll (opened 3) (reads 1 0 ∷ reads 1 0 ∷ reads 2 0 ∷ []) ≡ tracked 8 [] ∷ tracked 2 [] ∷ tracked 5 (position 1 1 ∷ []) ∷ []
-
-pub rows : Rows
-unfolding trackedAll openedState ownedRecords rowOf orderingsOf everyDone written leftOut nextOf localityAfter effectOf
-rows = record { a = refl; fence = refl; four = refl; took = refl }

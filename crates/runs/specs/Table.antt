@@ -1,9 +1,9 @@
 -- THE TABLE of the runs on the bench that are marked P (document 01, "Runs on the bench"), and one theorem for all of it.
-use Rattle.recorder.specs.Full.{Full, full-run}
-use Rattle.runs.specs.Rows.{Rows, rows}
-use Rattle.runs.specs.Calls.{Calls, calls}
-use Rattle.runs.specs.Bytes.{Bytes, bytes}
-use Rattle.runs.specs.Whole.{Whole, whole}
+use Rattle.recorder.specs.Full.{Full}
+use Rattle.runs.specs.Rows.{Rows}
+use Rattle.runs.specs.Calls.{Calls}
+use Rattle.runs.specs.Bytes.{Bytes}
+use Rattle.runs.specs.Whole.{Whole}
 
 pub record Table : Type 0 where
   -- rows and orderings: run A; with T = 3 and row 6; the run of four tasks
@@ -16,6 +16,3 @@ pub record Table : Type 0 where
   pub byte-runs : Bytes
   -- run A end to end: its ready words, and its replay
   pub whole-run : Whole
-
-pub table : Table
-table = record { row-runs = rows; call-runs = calls; full-runs = full-run; byte-runs = bytes; whole-run = whole }

@@ -1,6 +1,3 @@
 pub mod PackOf
-pub mod PackSections
-pub mod PackTurn
-pub mod SectionBySection
 pub mod SectionOf
-pub mod SectionTurn
+pub mod Laws

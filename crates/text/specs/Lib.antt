@@ -1,5 +1,4 @@
 pub mod Appended
-pub mod AppendedLaws
 pub mod Decimal
-pub mod DecimalLaws
 pub mod Zeros
+pub mod Laws

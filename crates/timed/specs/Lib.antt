@@ -1,4 +1,4 @@
 pub mod Digest
-pub mod ScriptOf
 pub mod ReplayOf
-pub mod Turns
+pub mod ScriptOf
+pub mod Laws

@@ -1,7 +1,6 @@
 -- The recorder's state (document 01, "Tasks, objects, positions"): what is kept of each task and of each object.
-use mathlib.Core.Path.{_≡_}
 use Prim.Native.Nat.{ℕ}
-use lib.ListN.{length, getD, replicate}
+use lib.ListN.{getD, replicate}
 use Rattle.codec.specs.declared.Position.{Position}
 use Rattle.tracker.specs.declared.Locality.{Locality}
 use Rattle.tracker.specs.declared.Locality.the-variants.{WriteExclusive, ReadExclusive, ReadShared}
@@ -66,10 +65,3 @@ blankState = record {
   shares = 0;
   last = nowhere;
 }
-
--- the lists' lengths, which the state's type fixes
-pub record Shaped (s : State) : Type 0 where
-  pub records : length (s .records) ≡ 256
-  pub done : length (s .done) ≡ 16
-  pub seen : length (s .seen) ≡ 16
-  pub took : length (s .took) ≡ 16

@@ -2,8 +2,8 @@
 ghost use mathlib.Core.Path.{_≡_};
 ghost use Prim.Native.Nat.{_+_, _<_, _^_};
 ghost use Rattle.tracker.specs.State.{holderOf, shareOf};
-ghost use Rattle.tracker.specs.ByRow.{plainPlan, sharePlan, fencePlan, takePlan, planBy};
-ghost use Rattle.tracker.specs.Plan.{Admits, planFor};
+ghost use Rattle.tracker.specs.Laws.ByRow.{plainPlan, sharePlan, fencePlan, takePlan, planBy};
+ghost use Rattle.tracker.specs.Laws.Plan.{Admits, planFor};
 use crate::Locality;
 use crate::Marks;
 use crate::Plan;

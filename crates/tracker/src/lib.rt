@@ -1,6 +1,6 @@
 // The recorder's state, its soundness test and the transition table of document 01.
 ghost use mathlib.Core.Path.{_≡_};
-ghost use Rattle.tracker.specs.Marks.{marksOf};
+ghost use Rattle.tracker.specs.Laws.Marks.{marksOf};
 ghost use Rattle.tracker.specs.State.{blankState};
 use codec::Position;
 

@@ -2,7 +2,7 @@
 // over the records themselves, since a function that took them would be given a copy.
 ghost use mathlib.Core.Path.{_≡_};
 ghost use Prim.Native.Nat.{_≤_, min};
-ghost use Rattle.tracker.specs.Scan.{marksSound};
+ghost use Rattle.tracker.specs.Laws.Scan.{marksSound};
 ghost use Rattle.tracker.specs.Sound.{lastSound, taskSound, tasksSound, objectSound};
 use crate::Locality;
 use crate::Marks;

@@ -1,11 +1,4 @@
-pub mod Answered
 pub mod Lines
-pub mod LinesBound
-pub mod LinesLaws
-pub mod Objects
 pub mod Text
-pub mod TextBound
-pub mod TextLaws
 pub mod Told
-pub mod ToldBound
-pub mod ToldLaws
+pub mod Laws

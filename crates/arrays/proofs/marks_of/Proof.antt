@@ -2,7 +2,7 @@ use native.Mathlib.Omega.{arith}
 use mathlib.Core.Path.{refl}
 use Prim.Native.Nat.{_+_, _-_}
 use lib.ListN.{getD}
-use Rattle.replayer.specs.Each.{Filled, filled-none, filled-more, filled-all}
+use Rattle.replayer.specs.Laws.Each.{Filled, filled-none, filled-more, filled-all}
 use borrow.Author.Needs.{needs}
 use Rattle.arrays.proofs.marks_of.Statement.{statement}
 use Rattle.arrays.proofs.marks_of.Tie as tie

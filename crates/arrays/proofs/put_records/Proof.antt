@@ -3,8 +3,8 @@ use native.Mathlib.Omega.{arith}
 use Rattle.codec.specs.Store.{store}
 use Rattle.tracker.specs.State.{holderOf}
 use Rattle.arrays.specs.Halves.{caseOf, localityAt, sharesOf}
-use Rattle.arrays.specs.HalvesTurn.{two, two-none, two-more, one-none}
-use Rattle.arrays.specs.Stores.{store-more}
+use Rattle.arrays.specs.Laws.HalvesCode.{two, two-none, two-more, one-none}
+use Rattle.arrays.specs.Laws.Stores.{store-more}
 use Prim.Native.Nat.{_≤_, _-_}
 use borrow.Author.Needs.{needs}
 use Rattle.arrays.proofs.put_records.Statement.{statement}

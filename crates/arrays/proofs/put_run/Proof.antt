@@ -3,7 +3,7 @@ use Prim.Native.Nat.{_≤_, _-_}
 use native.Mathlib.Omega.{arith}
 use Rattle.codec.specs.Store.{store}
 use Rattle.arrays.specs.Places.{firstPlaces}
-use Rattle.arrays.specs.PlacesTurn.{places-none, places-more, places-all}
+use Rattle.arrays.specs.Laws.PlacesCode.{places-none, places-more, places-all}
 use borrow.Author.Needs.{needs}
 use Rattle.arrays.proofs.put_run.Statement.{statement}
 use Rattle.arrays.proofs.put_run.Tie as tie

@@ -1,5 +1,5 @@
-use Rattle.replayer.specs.Each.{each-length}
-use Rattle.arrays.specs.HalvesTurn.{halves-all, words-all}
+use Rattle.replayer.specs.Laws.Each.{each-length}
+use Rattle.arrays.specs.Laws.HalvesCode.{halves-all, words-all}
 use borrow.Author.Needs.{needs}
 use Rattle.arrays.proofs.put_state.Statement.{statement}
 use Rattle.arrays.proofs.put_state.Tie as tie

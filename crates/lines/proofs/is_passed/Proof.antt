@@ -1,6 +1,6 @@
 use mathlib.Core.Path.{sym}
 use denote.Ref.{now}
-use Rattle.lines.specs.Lines.{passed-empty, passed-some}
+use Rattle.lines.specs.Laws.Lines.{passed-empty, passed-some}
 use borrow.Author.Needs.{needs}
 use Rattle.lines.proofs.is_passed.Statement.{statement}
 use Rattle.lines.proofs.is_passed.Tie as tie

@@ -5,8 +5,9 @@ use native.Mathlib.Omega.{arith}
 use borrow.Author.Tests.{not-true, not-false}
 use denote.Ref.{now}
 use lib.ListN.{length}
-use Rattle.lines.specs.Found.{found-from}
-use Rattle.lines.specs.Lines.{linesFrom, lineBehind, line-held, line-passed, line-counted, lines-none}
+use Rattle.lines.specs.Laws.Found.{found-from}
+use Rattle.lines.specs.Lines.{linesFrom, lineBehind}
+use Rattle.lines.specs.Laws.Lines.{line-held, line-passed, line-counted, lines-none}
 use borrow.Author.Needs.{needs}
 use Rattle.lines.proofs.next_line.Statement.{statement}
 use Rattle.lines.proofs.next_line.Tie as tie

@@ -1,5 +1,5 @@
 use denote.Ref.{now}
-use Rattle.text.specs.AppendedLaws.{one-byte}
+use Rattle.text.specs.Laws.Appended.{one-byte}
 use borrow.Author.Needs.{needs}
 use Rattle.text.proofs.put_byte.Statement.{statement}
 use Rattle.text.proofs.put_byte.Tie as tie

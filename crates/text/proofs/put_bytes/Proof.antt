@@ -1,5 +1,5 @@
 use denote.Ref.{now}
-use Rattle.text.specs.AppendedLaws.{copied}
+use Rattle.text.specs.Laws.Appended.{copied}
 use borrow.Author.Needs.{needs}
 use Rattle.text.proofs.put_bytes.Statement.{statement}
 use Rattle.text.proofs.put_bytes.Tie as tie

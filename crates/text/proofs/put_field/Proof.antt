@@ -1,6 +1,6 @@
 use native.Mathlib.Omega.{arith}
-use Rattle.text.specs.AppendedLaws.{joined}
-use Rattle.text.specs.DecimalLaws.{field-length}
+use Rattle.text.specs.Laws.Appended.{joined}
+use Rattle.text.specs.Laws.Decimal.{field-length}
 use borrow.Author.Needs.{needs}
 use Rattle.text.proofs.put_field.Statement.{statement}
 use Rattle.text.proofs.put_field.Tie as tie

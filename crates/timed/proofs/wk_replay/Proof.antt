@@ -4,7 +4,7 @@ use native.Mathlib.Omega.{arith}
 use denote.Ref.{now}
 use lib.ListN.{length}
 use Rattle.timed.specs.ReplayOf.{Replayed, taskNext, stepsIn, replayOf}
-use Rattle.timed.specs.Turns.{steps-over, steps-stop, steps-more, step-turn}
+use Rattle.timed.specs.Laws.LoopsCode.{steps-over, steps-stop, steps-more, step-turn}
 use borrow.Author.Needs.{needs}
 use Rattle.timed.proofs.wk_replay.Statement.{statement}
 use Rattle.timed.proofs.wk_replay.Tie as tie

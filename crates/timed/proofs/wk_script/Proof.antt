@@ -4,7 +4,7 @@ use native.Mathlib.Omega.{arith}
 use denote.Ref.{now}
 use lib.ListN.{length}
 use Rattle.timed.specs.ScriptOf.{Scripted, accessesTo, scriptOf}
-use Rattle.timed.specs.Turns.{access-turn}
+use Rattle.timed.specs.Laws.LoopsCode.{access-turn}
 use borrow.Author.Needs.{needs}
 use Rattle.timed.proofs.wk_script.Statement.{statement}
 use Rattle.timed.proofs.wk_script.Tie as tie

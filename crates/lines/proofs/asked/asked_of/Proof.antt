@@ -1,6 +1,6 @@
 use mathlib.Core.Path.{_∙_}
 use native.Mathlib.Omega.{arith}
-use Rattle.lines.specs.AskedTurn.{asked-three, asked-four, asked-none}
+use Rattle.lines.specs.Laws.AskedCode.{asked-three, asked-four, asked-none}
 use borrow.Author.Needs.{needs}
 use Rattle.lines.proofs.asked.asked_of.Statement.{statement}
 use Rattle.lines.proofs.asked.asked_of.Tie as tie

@@ -3,7 +3,7 @@ use native.Mathlib.Omega.{arith}
 use borrow.Author.Tests.{ne-eqb}
 use lib.Seq.{length-take-le}
 use Rattle.lines.specs.Rows.{isRow}
-use Rattle.lines.specs.RowTurn.{row-judged}
+use Rattle.lines.specs.Laws.RowCode.{row-judged}
 use borrow.Author.Needs.{needs}
 use Rattle.lines.proofs.rows.is_row.Statement.{statement}
 use Rattle.lines.proofs.rows.is_row.Tie as tie

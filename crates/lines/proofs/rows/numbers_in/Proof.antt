@@ -4,7 +4,7 @@ use native.Mathlib.Omega.{arith}
 use denote.Ref.{now}
 use lib.ListN.{length, drop}
 use Rattle.reader.specs.Parse.{allBelow}
-use Rattle.reader.specs.OneByOne.{below-on, below-off, below-end}
+use Rattle.reader.specs.Laws.OneByOne.{below-on, below-off, below-end}
 use Rattle.lines.specs.Number.{none}
 use borrow.Author.Needs.{needs}
 use Rattle.lines.proofs.rows.numbers_in.Statement.{statement}

@@ -4,7 +4,7 @@ use native.Mathlib.Omega.{arith}
 use borrow.Author.Tests.{not-true, not-false}
 use lib.ListN.{length-take, length-replicate}
 use lib.Seq.{length-take-le}
-use Rattle.lines.specs.RowTurn.{row-fields}
+use Rattle.lines.specs.Laws.RowCode.{row-fields}
 use Rattle.lines.specs.Rows.{ownersOf}
 use borrow.Author.Needs.{needs}
 use Rattle.lines.proofs.rows.read_owners.Statement.{statement}

@@ -5,7 +5,7 @@ use denote.Ref.{now}
 use lib.ListN.{length, take, length-set}
 use lib.Seq.{take-all}
 use Rattle.lines.specs.Rows.{ownerOf, ownersOf}
-use Rattle.lines.specs.RowTurn.{map-on}
+use Rattle.lines.specs.Laws.RowCode.{map-on}
 use borrow.Author.Needs.{needs}
 use Rattle.lines.proofs.rows.set_owners.Statement.{statement}
 use Rattle.lines.proofs.rows.set_owners.Tie as tie

@@ -3,9 +3,9 @@ use Prim.Native.Nat.{_≤_, _-_}
 use native.Mathlib.Omega.{arith}
 use denote.Ref.{now}
 use lib.ListN.{length, take, length-set}
-use Rattle.reader.specs.OneByOne.{copy-more, copy-end}
+use Rattle.reader.specs.Laws.OneByOne.{copy-more, copy-end}
 use Rattle.lines.specs.Number.{none}
-use Rattle.lines.specs.RowTurn.{below-at}
+use Rattle.lines.specs.Laws.RowCode.{below-at}
 use borrow.Author.Needs.{needs}
 use Rattle.lines.proofs.rows.set_starts.Statement.{statement}
 use Rattle.lines.proofs.rows.set_starts.Tie as tie

@@ -2,7 +2,7 @@ use mathlib.Core.Path.{sym, _∙_}
 use native.Mathlib.Omega.{arith}
 use borrow.Author.Tests.{not-true, not-false}
 use Rattle.lines.specs.Rows.{sizesOf}
-use Rattle.lines.specs.RowTurn.{sizes-so}
+use Rattle.lines.specs.Laws.RowCode.{sizes-so}
 use borrow.Author.Needs.{needs}
 use Rattle.lines.proofs.rows.sizes_of.Statement.{statement}
 use Rattle.lines.proofs.rows.sizes_of.Tie as tie

@@ -1,6 +1,6 @@
 use mathlib.Core.Path.{sym}
 use native.Mathlib.Omega.{arith}
-use Rattle.lines.specs.Number.{digit-low, digit-high, digit-some}
+use Rattle.lines.specs.Laws.Number.{digit-low, digit-high, digit-some}
 use borrow.Author.Needs.{needs}
 use Rattle.lines.proofs.words.digit_on.Statement.{statement}
 use Rattle.lines.proofs.words.digit_on.Tie as tie

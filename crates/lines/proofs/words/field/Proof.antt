@@ -1,7 +1,7 @@
 use mathlib.Core.Path.{sym, _∙_}
 use native.Mathlib.Omega.{arith}
 use denote.Ref.{now}
-use Rattle.lines.specs.Fields.{field-read, field-write, field-number}
+use Rattle.lines.specs.Laws.Fields.{field-read, field-write, field-number}
 use borrow.Author.Needs.{needs}
 use Rattle.lines.proofs.words.field.Statement.{statement}
 use Rattle.lines.proofs.words.field.Tie as tie

@@ -3,8 +3,8 @@ use Prim.Native.Nat.{_≤_, _-_, _+_}
 use native.Mathlib.Omega.{arith}
 use denote.Ref.{now}
 use lib.ListN.{length, length-set}
-use Rattle.lines.specs.Found.{found-from}
-use Rattle.lines.specs.FieldsTurn.{Reads, reads-none, reads-more, reads-all}
+use Rattle.lines.specs.Laws.Found.{found-from}
+use Rattle.lines.specs.Laws.FieldsCode.{Reads, reads-none, reads-more, reads-all}
 use borrow.Author.Needs.{needs}
 use Rattle.lines.proofs.words.fields.Statement.{statement}
 use Rattle.lines.proofs.words.fields.Tie as tie

@@ -3,7 +3,8 @@ use Prim.Native.Nat.{ℕ, _≤_, _-_, _+_}
 use native.Mathlib.Omega.{arith}
 use denote.Ref.{now}
 use lib.ListN.{length, drop}
-use Rattle.lines.specs.Number.{digitsOn, numberOf, number-empty, number-some, digits-next, digits-end}
+use Rattle.lines.specs.Number.{digitsOn, numberOf}
+use Rattle.lines.specs.Laws.Number.{number-empty, number-some, digits-next, digits-end}
 use borrow.Author.Needs.{needs}
 use Rattle.lines.proofs.words.number.Statement.{statement}
 use Rattle.lines.proofs.words.number.Tie as tie

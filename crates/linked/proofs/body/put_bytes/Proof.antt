@@ -4,8 +4,9 @@ use native.Mathlib.Omega.{arith}
 use denote.Ref.{now}
 use lib.ListN.{length, take, length-set}
 use lib.Seq.{take-all}
-use Rattle.codec.specs.Store.{store, store-none}
-use Rattle.linked.specs.CopyLaws.{copy-more}
+use Rattle.codec.specs.Store.{store}
+use Rattle.codec.specs.Laws.Store.{store-none}
+use Rattle.linked.specs.Laws.CopyOf.{copy-more}
 use borrow.Author.Needs.{needs}
 use Rattle.linked.proofs.body.put_bytes.Statement.{statement}
 use Rattle.linked.proofs.body.put_bytes.Tie as tie

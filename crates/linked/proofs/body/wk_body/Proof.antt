@@ -1,6 +1,6 @@
 use mathlib.Core.Path.{refl}
 use denote.Ref.{now}
-use Rattle.linked.specs.CopyLaws.{copy-none, copy-room, copy-all}
+use Rattle.linked.specs.Laws.CopyOf.{copy-none, copy-room, copy-all}
 use borrow.Author.Needs.{needs}
 use Rattle.linked.proofs.body.wk_body.Statement.{statement}
 use Rattle.linked.proofs.body.wk_body.Tie as tie

@@ -1,6 +1,6 @@
 use mathlib.Core.Path.{_∙_}
 use Rattle.codec.specs.Store.{store}
-use Rattle.arrays.specs.HalvesTurn.{moved-not, moved-on}
+use Rattle.arrays.specs.Laws.HalvesCode.{moved-not, moved-on}
 use borrow.Author.Needs.{needs}
 use Rattle.linked.proofs.calls.wk_access.Statement.{statement}
 use Rattle.linked.proofs.calls.wk_access.Tie as tie

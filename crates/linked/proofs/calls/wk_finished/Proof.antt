@@ -1,5 +1,5 @@
 use Rattle.codec.specs.Store.{store}
-use Rattle.linked.specs.Answers.{bool-bit}
+use Rattle.linked.specs.Laws.Answers.{bool-bit}
 use borrow.Author.Needs.{needs}
 use Rattle.linked.proofs.calls.wk_finished.Statement.{statement}
 use Rattle.linked.proofs.calls.wk_finished.Tie as tie

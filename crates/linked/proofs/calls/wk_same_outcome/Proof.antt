@@ -1,4 +1,4 @@
-use Rattle.linked.specs.Answers.{bool-bit}
+use Rattle.linked.specs.Laws.Answers.{bool-bit}
 use Rattle.codec.specs.Store.{store}
 use borrow.Author.Needs.{needs}
 use Rattle.linked.proofs.calls.wk_same_outcome.Statement.{statement}

@@ -1,6 +1,6 @@
 use denote.Ref.{now}
 use borrow.Author.Needs.{needs}
-use Rattle.playback.specs.AlikeTurn.{compares}
+use Rattle.playback.specs.Laws.AlikeCode.{compares}
 use Rattle.playback.specs.ToEnd.{playOf}
 use Rattle.playback.proofs.alike.compare.Statement.{statement}
 use Rattle.playback.proofs.alike.compare.Tie as tie

@@ -3,7 +3,7 @@ use denote.Ref.{now}
 use borrow.Author.Needs.{needs}
 use Rattle.playback.specs.Alike.{Comparison}
 use Rattle.playback.specs.ToEnd.{playOf}
-use Rattle.playback.specs.AlikeTurn.{both-ended, first-away, second-away, first-entries, second-entries, both-play}
+use Rattle.playback.specs.Laws.AlikeCode.{both-ended, first-away, second-away, first-entries, second-entries, both-play}
 use Rattle.playback.proofs.alike.same_outcome.Statement.{statement}
 use Rattle.playback.proofs.alike.same_outcome.Tie as tie
 

@@ -1,7 +1,7 @@
 use mathlib.Core.Path.{refl}
 use Prim.Native.Nat.{_-_}
-use Rattle.playback.specs.Columns.{placeOf, endOf, countOf}
-use Rattle.replayer.specs.Each.{Filled, filled-none, filled-more, filled-all}
+use Rattle.playback.specs.Laws.Columns.{placeOf, endOf, countOf}
+use Rattle.replayer.specs.Laws.Each.{Filled, filled-none, filled-more, filled-all}
 use Rattle.replayer.specs.Run.{doneOf}
 use borrow.Author.Needs.{needs}
 use Rattle.playback.proofs.columns.columns_of.Statement.{statement}

@@ -4,10 +4,11 @@ use Prim.Native.Nat.{_-_, _≤_, _<_}
 use denote.Ref.{now}
 use borrow.Author.Needs.{needs}
 use borrow.Author.Tests.{lt-ltb, le-ltb}
-use Rattle.replayer.specs.All.{allFrom, all-on, all-off, all-end}
-use Rattle.playback.specs.Columns.{doneBy, allDoneOf}
+use Rattle.replayer.specs.All.{allFrom}
+use Rattle.replayer.specs.Laws.All.{all-on, all-off, all-end}
+use Rattle.playback.specs.Laws.Columns.{doneBy, allDoneOf}
 use Rattle.playback.specs.Finish.{tasksIn}
-use Rattle.playback.specs.FinishLaws.{tasks-few}
+use Rattle.playback.specs.Laws.Finish.{tasks-few}
 use Rattle.playback.proofs.finish.all_done.Statement.{statement}
 use Rattle.playback.proofs.finish.all_done.Tie as tie
 

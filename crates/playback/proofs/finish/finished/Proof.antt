@@ -2,8 +2,8 @@ use mathlib.Core.Path.{sym, _∙_}
 use lib.ListN.{length-map}
 use borrow.Author.Needs.{needs}
 use borrow.Author.Tests.{not-true, not-false}
-use Rattle.replayer.specs.Moved.{Shaped}
-use Rattle.playback.specs.ColumnsLaws.{columns-told}
+use Rattle.replayer.specs.Laws.Moved.{Shaped}
+use Rattle.playback.specs.Laws.Columns.{columns-told}
 use Rattle.playback.specs.Finish.{finishedCall}
 use Rattle.playback.proofs.finish.finished.Statement.{statement}
 use Rattle.playback.proofs.finish.finished.Tie as tie

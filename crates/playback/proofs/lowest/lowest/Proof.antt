@@ -6,16 +6,16 @@ use lib.ListN.{length}
 use denote.Ref.{now}
 use Rattle.replayer.specs.declared.Run.{Run}
 use Rattle.replayer.proofs.Else.{closed-next}
-use Rattle.replayer.specs.Look.{OneTask}
+use Rattle.replayer.specs.Laws.Look.{OneTask}
 use Rattle.replayer.specs.ReadyOf.{isReady}
 use Rattle.replayer.specs.Run.{limitsOf}
-use Rattle.replayer.specs.Sound.{Sound, sound-facts}
-use Rattle.playback.specs.Columns.{taskOf, runOf}
-use Rattle.playback.specs.ColumnsLaws.{columns-task, columns-one}
-use Rattle.playback.specs.ColumnsTurn.{Columned, columned-noted, columned-moved, columned-on}
-use Rattle.playback.specs.Lowest.{lowestOf, afterOf}
-use Rattle.playback.specs.LowestLaws.{IsNext, ready-left, lowest-next, lowest-none, visit-first, visit-all}
-use Rattle.playback.specs.Visit.{Visited, none-more, own-note}
+use Rattle.replayer.specs.Laws.Sound.{Sound, sound-facts}
+use Rattle.playback.specs.Laws.Columns.{taskOf, runOf}
+use Rattle.playback.specs.Laws.Columns.{columns-task, columns-one}
+use Rattle.playback.specs.Laws.ColumnsCode.{Columned, columned-noted, columned-moved, columned-on}
+use Rattle.playback.specs.Laws.Lowest.{lowestOf, afterOf}
+use Rattle.playback.specs.Laws.Lowest.{IsNext, ready-left, lowest-next, lowest-none, visit-first, visit-all}
+use Rattle.playback.specs.Laws.Visit.{Visited, none-more, own-note}
 use borrow.Author.Needs.{needs}
 use Rattle.playback.proofs.lowest.lowest.Statement.{statement}
 use Rattle.playback.proofs.lowest.lowest.Tie as tie

@@ -5,12 +5,12 @@ use lib.ListN.{length, length-set, length-map}
 use denote.Ref.{now}
 use borrow.Author.Tests.{not-true, not-false}
 use Rattle.replayer.specs.declared.Run.{Run}
-use Rattle.replayer.specs.Moved.{Shaped}
-use Rattle.playback.specs.Columns.{runOf}
-use Rattle.playback.specs.ColumnsLaws.{columns-back}
-use Rattle.playback.specs.ColumnsTurn.{Columned, columned-none}
-use Rattle.playback.specs.LowestLaws.{SteppedTo, found-next, found-none}
-use Rattle.playback.specs.ScheduleTurn.{Writing, wrote-none, writing-none, writing-more, writing-stops, writing-full}
+use Rattle.replayer.specs.Laws.Moved.{Shaped}
+use Rattle.playback.specs.Laws.Columns.{runOf}
+use Rattle.playback.specs.Laws.Columns.{columns-back}
+use Rattle.playback.specs.Laws.ColumnsCode.{Columned, columned-none}
+use Rattle.playback.specs.Laws.Lowest.{SteppedTo, found-next, found-none}
+use Rattle.playback.specs.Laws.ScheduleCode.{Writing, wrote-none, writing-none, writing-more, writing-stops, writing-full}
 use Rattle.playback.proofs.Else.{not-ready}
 use borrow.Author.Needs.{needs}
 use Rattle.playback.proofs.schedule.schedule.Statement.{statement}

@@ -2,7 +2,7 @@ use mathlib.Core.Path.{ap, _∙_}
 use native.Mathlib.Omega.{arith}
 use denote.Ref.{now}
 use borrow.Author.Needs.{needs}
-use Rattle.playback.specs.ToEndTurn.{Playable, playable, plays, same-play}
+use Rattle.playback.specs.Laws.ToEndCode.{Playable, playable, plays, same-play}
 use Rattle.playback.specs.Finish.{Play, shownPlay}
 use Rattle.playback.proofs.to_end.play.Statement.{statement}
 use Rattle.playback.proofs.to_end.play.Tie as tie

@@ -1,7 +1,7 @@
 use mathlib.Core.Path.{_≡_, ap, _∙_}
 use denote.Ref.{now}
 use Rattle.playback.specs.ToEnd.{EndOutcome, playOf}
-use Rattle.playback.specs.ToEndTurn.{ends-so, end-bytes, end-length, end-plays}
+use Rattle.playback.specs.Laws.ToEndCode.{ends-so, end-bytes, end-length, end-plays}
 use borrow.Author.Needs.{needs}
 use Rattle.playback.proofs.to_end.replay_to_end.Statement.{statement}
 use Rattle.playback.proofs.to_end.replay_to_end.Tie as tie

@@ -1,7 +1,8 @@
 use denote.Ref.{now}
 use lib.ListN.{getD}
-use Rattle.replayer.specs.NextTurn.{Reached, ahead-rest}
-use Rattle.playback.specs.Visit.{visit-none, visit-looks, noted-set, noted-scan}
+use Rattle.replayer.specs.NextTurn.{Reached}
+use Rattle.replayer.specs.Laws.NextTurn.{ahead-rest}
+use Rattle.playback.specs.Laws.Visit.{visit-none, visit-looks, noted-set, noted-scan}
 use borrow.Author.Needs.{needs}
 use Rattle.playback.proofs.visit.visit.Statement.{statement}
 use Rattle.playback.proofs.visit.visit.Tie as tie

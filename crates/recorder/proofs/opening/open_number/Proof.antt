@@ -6,7 +6,8 @@ use denote.Ref.{now}
 use borrow.Author.Tests.{not-true, not-false, lt-ltb, le-ltb}
 use Rattle.codec.specs.Head.{headLength}
 use Rattle.reader.specs.Parse.{allBelow}
-use Rattle.codec.specs.Limit.{isWithin, within-facts}
+use Rattle.codec.specs.Limit.{isWithin}
+use Rattle.codec.specs.Laws.Limit.{within-facts}
 use Rattle.recorder.specs.OpenOf.{entriesOk, openNumber}
 use borrow.Author.Needs.{needs}
 use Rattle.recorder.proofs.opening.open_number.Statement.{statement}

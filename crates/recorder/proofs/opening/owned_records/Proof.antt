@@ -4,7 +4,8 @@ use native.Mathlib.Nat.{le-antisymm}
 use native.Mathlib.Omega.{arith}
 use lib.ListN.{length, length-set}
 use denote.Ref.{now}
-use Rattle.tracker.specs.Opened.{ownedRecords, records-none, records-more}
+use Rattle.tracker.specs.Opened.{ownedRecords}
+use Rattle.tracker.specs.Laws.Opened.{records-none, records-more}
 use borrow.Author.Needs.{needs}
 use Rattle.recorder.proofs.opening.owned_records.Statement.{statement}
 use Rattle.recorder.proofs.opening.owned_records.Tie as tie

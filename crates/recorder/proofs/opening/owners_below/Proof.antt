@@ -4,7 +4,7 @@ use native.Mathlib.Omega.{arith}
 use lib.ListN.{length, drop}
 use denote.Ref.{now}
 use Rattle.reader.specs.Parse.{allBelow}
-use Rattle.reader.specs.OneByOne.{below-on, below-off, below-end}
+use Rattle.reader.specs.Laws.OneByOne.{below-on, below-off, below-end}
 use borrow.Author.Needs.{needs}
 use Rattle.recorder.proofs.opening.owners_below.Statement.{statement}
 use Rattle.recorder.proofs.opening.owners_below.Tie as tie

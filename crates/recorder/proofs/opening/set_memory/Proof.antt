@@ -3,7 +3,7 @@ use Prim.Native.Nat.{_≤_, _-_}
 use native.Mathlib.Omega.{arith}
 use lib.ListN.{length, take, length-set}
 use denote.Ref.{now}
-use Rattle.reader.specs.OneByOne.{copy-more, copy-end}
+use Rattle.reader.specs.Laws.OneByOne.{copy-more, copy-end}
 use borrow.Author.Needs.{needs}
 use Rattle.recorder.proofs.opening.set_memory.Statement.{statement}
 use Rattle.recorder.proofs.opening.set_memory.Tie as tie

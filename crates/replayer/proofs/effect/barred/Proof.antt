@@ -5,7 +5,8 @@ use borrow.Author.Needs.{needs}
 use borrow.Author.Tests.{lt-ltb, le-ltb, eq-eqb, ne-eqb, not-true, not-false}
 use mathlib.Core.Bool.{true}
 use lib.Dec.{eqb, ltb}
-use Rattle.replayer.specs.Sound.{soundOf, sound-facts}
+use Rattle.replayer.specs.Sound.{soundOf}
+use Rattle.replayer.specs.Laws.Sound.{sound-facts}
 use Rattle.replayer.specs.Run.{taskAt}
 use Rattle.replayer.specs.StepOf.{barredOf}
 use Rattle.replayer.proofs.effect.barred.Statement.{statement}

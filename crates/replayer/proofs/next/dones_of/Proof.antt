@@ -1,6 +1,6 @@
 use mathlib.Core.Path.{refl}
 use Prim.Native.Nat.{_-_}
-use Rattle.replayer.specs.Each.{Filled, filled-none, filled-more, filled-all}
+use Rattle.replayer.specs.Laws.Each.{Filled, filled-none, filled-more, filled-all}
 use Rattle.replayer.specs.Run.{doneOf}
 use borrow.Author.Needs.{needs}
 use Rattle.replayer.proofs.next.dones_of.Statement.{statement}

@@ -1,6 +1,6 @@
 use mathlib.Core.Path.{refl, sym}
 use denote.Ref.{now}
-use Rattle.replayer.specs.Look.{look-next}
+use Rattle.replayer.specs.Laws.Look.{look-next}
 use borrow.Author.Needs.{needs}
 use Rattle.replayer.proofs.next.next_of.Statement.{statement}
 use Rattle.replayer.proofs.next.next_of.Tie as tie

@@ -3,10 +3,12 @@ use native.Mathlib.Omega.{arith}
 use Prim.Native.Nat.{_-_, _≤_, _<_}
 use borrow.Author.Needs.{needs}
 use mathlib.Core.Bool.{true}
-use Rattle.codec.specs.Limit.{maxTasks, maxObjects, isWithin, within-facts}
+use Rattle.codec.specs.Limit.{maxTasks, maxObjects, isWithin}
+use Rattle.codec.specs.Laws.Limit.{within-facts}
 use Rattle.replayer.specs.Sound.{taskSoundAt, soundOf}
 use borrow.Author.Tests.{not-true, not-false}
-use Rattle.replayer.specs.All.{allFrom, all-on, all-off, all-end}
+use Rattle.replayer.specs.All.{allFrom}
+use Rattle.replayer.specs.Laws.All.{all-on, all-off, all-end}
 use Rattle.replayer.proofs.sound.sound.Statement.{statement}
 use Rattle.replayer.proofs.sound.sound.Tie as tie
 

@@ -4,7 +4,7 @@ use Prim.Native.Nat.{_-_, _≤_}
 use borrow.Author.Needs.{needs}
 use native.Mathlib.Nat.{le-antisymm}
 use Rattle.replayer.specs.OpenOf.{startsOf}
-use Rattle.replayer.specs.OpenTurn.{starts-none, starts-more, starts-clipped}
+use Rattle.replayer.specs.Laws.OpenCode.{starts-none, starts-more, starts-clipped}
 use Rattle.replayer.proofs.start.starts.Statement.{statement}
 use Rattle.replayer.proofs.start.starts.Tie as tie
 

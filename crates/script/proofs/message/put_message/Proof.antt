@@ -1,7 +1,7 @@
 use native.Mathlib.Omega.{arith}
-use Rattle.text.specs.AppendedLaws.{same-room}
-use Rattle.text.specs.DecimalLaws.{decimal-short}
-use Rattle.script.specs.MessageTurn.{message-none, message-line}
+use Rattle.text.specs.Laws.Appended.{same-room}
+use Rattle.text.specs.Laws.Decimal.{decimal-short}
+use Rattle.script.specs.Laws.MessageCode.{message-none, message-line}
 use borrow.Author.Needs.{needs}
 use Rattle.script.proofs.message.put_message.Statement.{statement}
 use Rattle.script.proofs.message.put_message.Tie as tie

@@ -1,7 +1,7 @@
 use native.Mathlib.Omega.{arith}
-use Rattle.text.specs.AppendedLaws.{same-room}
-use Rattle.text.specs.DecimalLaws.{decimal-short, field-length}
-use Rattle.script.specs.MessageTurn.{reason-malformed, reason-refused}
+use Rattle.text.specs.Laws.Appended.{same-room}
+use Rattle.text.specs.Laws.Decimal.{decimal-short, field-length}
+use Rattle.script.specs.Laws.MessageCode.{reason-malformed, reason-refused}
 use borrow.Author.Needs.{needs}
 use Rattle.script.proofs.message.put_reason.Statement.{statement}
 use Rattle.script.proofs.message.put_reason.Tie as tie

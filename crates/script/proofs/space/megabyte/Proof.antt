@@ -1,4 +1,4 @@
-use Rattle.text.specs.Zeros.{zeros-are}
+use Rattle.text.specs.Laws.Zeros.{zeros-are}
 use Rattle.script.proofs.space.megabyte.Statement.{statement}
 use Rattle.script.proofs.space.megabyte.Tie as tie
 

@@ -1,4 +1,4 @@
-use Rattle.tracker.specs.ByRow.{plan-decided}
+use Rattle.tracker.specs.Laws.ByRow.{plan-decided}
 use borrow.Author.Needs.{needs}
 use Rattle.tracker.proofs.advance.decide.Statement.{statement}
 use Rattle.tracker.proofs.advance.decide.Tie as tie

@@ -1,8 +1,9 @@
 use mathlib.Core.Bool.{true}
 use mathlib.Core.Path.{_≡_, _∙_, sym}
 use borrow.Author.Tests.{not-true, not-false}
-use Rattle.codec.specs.Limit.{isWithin, within-facts}
-use Rattle.tracker.specs.Scan.{marksSound}
+use Rattle.codec.specs.Limit.{isWithin}
+use Rattle.codec.specs.Laws.Limit.{within-facts}
+use Rattle.tracker.specs.Laws.Scan.{marksSound}
 use Rattle.tracker.specs.Sound.{lastSound}
 use borrow.Author.Needs.{needs}
 use Rattle.tracker.proofs.sound.marks_sound.Statement.{statement}

@@ -5,9 +5,11 @@ use native.Mathlib.Nat.{le-antisymm}
 use native.Mathlib.Omega.{arith}
 use borrow.Author.Tests.{not-true, not-false}
 use lib.ListN.{getD}
-use Rattle.tracker.specs.Range.{allBelow, all-none, all-more, all-fails}
-use Rattle.tracker.specs.Sum.{sumOf, sum-none, sum-more}
-use Rattle.tracker.specs.Facts.{task-facts}
+use Rattle.tracker.specs.Range.{allBelow}
+use Rattle.tracker.specs.Laws.Range.{all-none, all-more, all-fails}
+use Rattle.tracker.specs.Sum.{sumOf}
+use Rattle.tracker.specs.Laws.Sum.{sum-none, sum-more}
+use Rattle.tracker.specs.Laws.Facts.{task-facts}
 use Rattle.tracker.specs.Sound.{taskSoundAt, tasksSound}
 use borrow.Author.Needs.{needs}
 use Rattle.tracker.proofs.sound.tasks_sound.Statement.{statement}

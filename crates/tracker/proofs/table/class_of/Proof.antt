@@ -1,6 +1,7 @@
 use native.Mathlib.Omega.{arith}
 use Rattle.tracker.specs.Class.{classOf}
-use Rattle.codec.specs.Limit.{isWithin, within-test, within-below, within-above}
+use Rattle.codec.specs.Limit.{isWithin}
+use Rattle.codec.specs.Laws.Limit.{within-test, within-below, within-above}
 use Rattle.tracker.proofs.table.class_of.Statement.{statement}
 use Rattle.tracker.proofs.table.class_of.Tie as tie
 

@@ -1,7 +1,7 @@
 use native.Mathlib.Omega.{arith}
-use Rattle.text.specs.AppendedLaws.{joined}
+use Rattle.text.specs.Laws.Appended.{joined}
 use Rattle.transcript.specs.Lines.{endOf}
-use Rattle.transcript.specs.LinesLaws.{end-length, stuck-length}
+use Rattle.transcript.specs.Laws.Lines.{end-length, stuck-length}
 use borrow.Author.Needs.{needs}
 use Rattle.transcript.proofs.lines.put_end.Statement.{statement}
 use Rattle.transcript.proofs.lines.put_end.Tie as tie

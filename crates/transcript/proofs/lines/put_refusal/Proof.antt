@@ -1,7 +1,7 @@
 use native.Mathlib.Omega.{arith}
-use Rattle.text.specs.AppendedLaws.{joined}
+use Rattle.text.specs.Laws.Appended.{joined}
 use Rattle.transcript.specs.Lines.{refusalOf}
-use Rattle.transcript.specs.LinesLaws.{refusal-length}
+use Rattle.transcript.specs.Laws.Lines.{refusal-length}
 use borrow.Author.Needs.{needs}
 use Rattle.transcript.proofs.lines.put_refusal.Statement.{statement}
 use Rattle.transcript.proofs.lines.put_refusal.Tie as tie

@@ -1,7 +1,7 @@
 use native.Mathlib.Omega.{arith}
-use Rattle.text.specs.AppendedLaws.{joined}
+use Rattle.text.specs.Laws.Appended.{joined}
 use Rattle.transcript.specs.Lines.{lineOf}
-use Rattle.transcript.specs.LinesLaws.{line-length}
+use Rattle.transcript.specs.Laws.Lines.{line-length}
 use borrow.Author.Needs.{needs}
 use Rattle.transcript.proofs.lines.put_step.Statement.{statement}
 use Rattle.transcript.proofs.lines.put_step.Tie as tie

@@ -5,9 +5,9 @@ use denote.Ref.{now}
 use lib.ListN.{length, take}
 use lib.Seq.{take-length}
 use Rattle.text.specs.Appended.{Appended}
-use Rattle.text.specs.AppendedLaws.{joined, nothing}
+use Rattle.text.specs.Laws.Appended.{joined, nothing}
 use Rattle.transcript.specs.Lines.{spaced, memoryOf}
-use Rattle.transcript.specs.LinesLaws.{spaced-on, spaced-room, memory-length}
+use Rattle.transcript.specs.Laws.Lines.{spaced-on, spaced-room, memory-length}
 use borrow.Author.Needs.{needs}
 use Rattle.transcript.proofs.lines.put_values.Statement.{statement}
 use Rattle.transcript.proofs.lines.put_values.Tie as tie

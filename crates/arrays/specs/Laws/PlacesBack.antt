@@ -1,0 +1,45 @@
+-- A run that is stored is the run that the next call reads.
+use mathlib.Core.Path.{_≡_, subst, sym, _∙_}
+use mathlib.Core.List.{List, [], _∷_}
+use Prim.Native.Nat.{ℕ, zero, suc, _+_, _*_, _<_}
+use native.Mathlib.Decide.{ℕ-discrete}
+use native.Mathlib.Omega.{arith}
+use lib.ListN.{length, getD, List·getD-append}
+use lib.Seq.{getD-append-add}
+use Rattle.codec.specs.Store.{store}
+use Rattle.replayer.specs.declared.TaskRun.{TaskRun}
+use Rattle.replayer.specs.declared.Run.{Run}
+use Rattle.replayer.specs.Laws.Moved.{Shaped}
+use Rattle.replayer.specs.Run.{taskAt, blankTask}
+use Rattle.replayer.specs.Laws.Each.{each-of}
+use Rattle.arrays.specs.Places.{taskIn, runIn, taskPlaces, firstPlaces, placesOf}
+use Rattle.arrays.specs.Laws.PlacesCode.{places-length}
+use Rattle.arrays.specs.Laws.Stores.{store-whole, behind}
+
+places-at : (runs : List TaskRun) (n t k : ℕ) → t < n → k < 4 → getD (firstPlaces runs n) (4 * t + k) 0 ≡ getD (taskPlaces (taskAt runs t)) k 0
+unfolding firstPlaces
+places-at runs zero t k h l = absurd (omega arith)
+places-at runs (suc n) t k h l = elim (ℕ-discrete t n) [
+  | yes e ↦
+      subst (λ (m : ℕ). getD (firstPlaces runs (suc n)) (4 * m + k) 0 ≡ getD (taskPlaces (taskAt runs m)) k 0) (sym e)
+      (behind (firstPlaces runs n) (taskPlaces (taskAt runs n)) (4 * n) k (places-length runs n))
+  | no e ↦ List·getD-append (firstPlaces runs n) _ 0 (4 * t + k) (omega (arith, places-length runs n, e)) ∙ places-at runs n t k (omega (arith, e)) l
+]
+
+module _ (r : Run) where
+  place-at : (t k i : ℕ) → t < 16 → k < 4 → i ≡ 2 + (4 * t + k) → getD (placesOf r) i 0 ≡ getD (taskPlaces (taskAt (r .runs) t)) k 0
+  place-at t k i h l e = rw e (getD-append-add (r .tasks ∷ r .objects ∷ []) (firstPlaces (r .runs) 16) (4 * t + k) 0 ∙ places-at (r .runs) 16 t k h l)
+
+  task-back : (t : ℕ) → t < 16 → taskIn (placesOf r) t ≡ taskAt (r .runs) t
+  task-back t h =
+      rw (
+        place-at t 0 (2 + 4 * t) h (omega arith) (omega arith),
+        place-at t 1 (3 + 4 * t) h (omega arith) (omega arith),
+        place-at t 2 (4 + 4 * t) h (omega arith) (omega arith),
+        place-at t 3 (5 + 4 * t) h (omega arith) (omega arith),
+      )
+
+  pub run-back : (places : List ℕ) → length places ≡ 66 → Shaped r → runIn (store places 0 (placesOf r)) ≡ r
+  run-back places h s =
+      let n : length places ≡ length (placesOf r) = omega (arith, places-length (r .runs) 16) in
+      rw (store-whole places (placesOf r) n, each-of (taskIn (placesOf r)) 16 (r .runs) blankTask s task-back)

@@ -1,0 +1,15 @@
+pub mod BoxMatches
+pub mod BoxReference
+pub mod Filed
+pub mod FirstBox
+pub mod Follows
+pub mod LeftOver
+pub mod Matches
+pub mod OneCall
+pub mod Packed
+pub mod Replayed
+pub mod Sim
+pub mod SimRun
+pub mod SimStart
+pub mod SimStep
+pub mod Theorem

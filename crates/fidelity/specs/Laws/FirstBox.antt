@@ -1,0 +1,79 @@
+-- An accepted opening: what its arguments have, what it leaves, and so what holds of the box after any calls from it.
+use mathlib.Core.List.{List, [], _∷_}
+use mathlib.Core.Path.{_≡_, refl}
+use Prim.Native.Nat.{ℕ, zero, suc, _<_}
+use native.Mathlib.Omega.{arith}
+use borrow.Author.Tests.{eqb-true}
+use lib.Dec.{eqb}
+use lib.ListN.{length, getD}
+use Rattle.codec.specs.Laws.Decide.{passes, fails, split}
+use Rattle.codec.specs.Encode.{head}
+use Rattle.codec.specs.Head.{headLength}
+use Rattle.codec.specs.Store.{store}
+use Rattle.reader.specs.Bytes.{bodyBytes}
+use Rattle.reader.specs.Range.{AllUnder}
+use Rattle.history.specs.Laws.History.{at-nil}
+use Rattle.tracker.specs.Opened.{openedState}
+use Rattle.tracker.specs.Laws.Opened.{Opens}
+use Rattle.tracker.specs.Laws.Tracks.{tracks-opened}
+use Rattle.recorder.specs.OpenOf.{openNumber, opened, openOf}
+use Rattle.recorder.specs.Laws.OpenCode.{OpenFacts, open-facts, open-accepted}
+use Rattle.fidelity.specs.Box.{Opening, openedBy, Asked, firstBox, lastBox, recorded}
+use Rattle.fidelity.specs.Filed.{filedOf}
+use Rattle.reader.specs.Laws.Strict.{below-under}
+use Rattle.fidelity.specs.Laws.Follows.{Follows, follows-all}
+
+under-at : (n : ℕ) (l : List ℕ) (i : ℕ) → AllUnder n l → i < length l → getD l i 0 < n
+under-at n [] i u h = absurd (omega arith)
+under-at n (x ∷ l) zero u h = u .0
+under-at n (x ∷ l) (suc i) u h = under-at n l i (u .1) (omega arith)
+
+-- the starting values by object
+abbrev pub startOf : Opening → ℕ → ℕ
+startOf o c = getD (o .starts) c 0
+
+module _ (o : Opening) (accepted : openedBy o .answer .number ≡ 0) where
+  number-zero : openNumber (o .tasks) (o .objects) (o .owners) (length (o .starts)) (length (o .memory)) (length (o .out)) ≡ 0
+  unfolding openOf opened
+  number-zero = elim (split (eqb (openNumber (o .tasks) (o .objects) (o .owners) (length (o .starts)) (length (o .memory)) (length (o .out))) 0)) [
+    | passes p ↦ eqb-true _ _ p
+    | fails p ↦ rw p at accepted
+  ]
+
+  pub opening-facts : OpenFacts (o .tasks) (o .objects) (o .owners) (length (o .starts)) (length (o .memory)) (length (o .out))
+  opening-facts = open-facts (o .tasks) (o .objects) (o .owners) (length (o .starts)) (length (o .memory)) (length (o .out)) number-zero
+
+  pub owners-under : AllUnder (o .tasks) (o .owners)
+  owners-under = below-under (o .tasks) (o .owners) (opening-facts .owners-below)
+
+  pub opening-is : openedBy o ≡ record {
+    answer = record { number = 0; written = headLength (o .objects); state = openedState (o .tasks) (o .objects) (o .owners) };
+    memory = o .starts;
+    out = store (o .out) 0 (head (o .tasks) (o .owners) (o .starts));
+  }
+  opening-is = open-accepted (o .tasks) (o .objects) (o .owners) (o .starts) (o .memory) (o .out) _ refl number-zero
+
+  opens : Opens (o .tasks) (o .objects) (o .owners)
+  opens = record {
+    some-task = opening-facts .some-tasks;
+    tasks-fit = opening-facts .few-tasks;
+    some-object = opening-facts .some-objects;
+    objects-fit = opening-facts .few-objects;
+    owners-low = λ c h. under-at (o .tasks) (o .owners) c owners-under (omega (arith, opening-facts .owner-each));
+  }
+
+  follows-opened : Follows (startOf o) (o .tasks) (o .objects) (record { state = openedState (o .tasks) (o .objects) (o .owners); memory = o .starts; logs = λ t. [] }) []
+  unfolding openedState filedOf bodyBytes
+  follows-opened = record {
+    tracks = tracks-opened (o .tasks) (o .objects) (o .owners) opens;
+    tasks-are = refl;
+    objects-are = refl;
+    memory-each = opening-facts .start-each;
+    logs = λ t. refl;
+    small = λ t. omega arith;
+    entries = λ t. tt;
+    recordable = λ a. absurd (at-nil a);
+  }
+
+  pub follows-last : (asked : List Asked) → Follows (startOf o) (o .tasks) (o .objects) (lastBox o asked) (recorded o asked)
+  follows-last asked = follows-all (firstBox o) [] asked (rw opening-is follows-opened)

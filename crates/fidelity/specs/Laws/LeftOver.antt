@@ -1,0 +1,55 @@
+-- What is left of a task's accesses once it has done some of them: in the recording's form, oldest first.
+use mathlib.Core.Bool.{cond}
+use mathlib.Core.List.{List, [], _∷_, _++_}
+use mathlib.Core.Option.{some}
+use mathlib.Core.Path.{_≡_, refl}
+use Prim.Native.Nat.{ℕ, suc, _≤_}
+use native.Mathlib.Omega.{arith}
+use native.Mathlib.Decide.{ℕ-discrete}
+use borrow.Author.Tests.{eq-eqb, ne-eqb, le-leb, lt-leb}
+use lib.Dec.{eqb, leb}
+use Rattle.codec.specs.Laws.Decide.{passes, fails, split}
+use Rattle.reader.specs.Recording.{Entry as FileEntry}
+use Rattle.history.specs.Entry.{Entry}
+use Rattle.history.specs.History.{History, count, At, here, there}
+use Rattle.history.specs.Laws.History.{count-own, count-other, at-lt}
+use Rattle.history.specs.Replay.{next}
+use Rattle.history.specs.Laws.Ready.{next-access}
+use Rattle.fidelity.specs.Filed.{filed, filedOf}
+
+-- task t's accesses past the first n
+unfoldable pub leftOf : ℕ → ℕ → History → List FileEntry
+leftOf t n [] = []
+leftOf t n (e ∷ g) = cond (eqb (e .task) t) (cond (leb n (count t g)) (leftOf t n g ++ (filed e ∷ [])) []) (leftOf t n g)
+
+-- at first all of them
+pub left-all : (t : ℕ) (h : History) → leftOf t 0 h ≡ filedOf t h
+unfolding leftOf filedOf
+left-all t [] = refl
+left-all t (e ∷ g) = elim (split (eqb (e .task) t)) [
+  | passes p ↦ rw (p, le-leb 0 (count t g) (omega arith), left-all t g)
+  | fails p ↦ rw (p, left-all t g)
+]
+
+left-end : (t n : ℕ) (h : History) → count t h ≤ n → leftOf t n h ≡ []
+unfolding leftOf
+left-end t n [] q = refl
+left-end t n (e ∷ g) q = elim (ℕ-discrete (e .task) t) [
+  | yes p ↦ let c = count-own t e g p in rw (eq-eqb (e .task) t p, lt-leb n (count t g) (omega arith))
+  | no p ↦ rw (ne-eqb (e .task) t p) (left-end t n g (omega (arith, count-other t e g p)))
+]
+
+left-at : (t n : ℕ) {h : History} {e : Entry} {g : History} → At e g h → e .task ≡ t → count t g ≡ n → leftOf t n h ≡ filed e ∷ leftOf t (suc n) h
+unfolding leftOf
+left-at t n {e = e} {g = g} here p q =
+    rw (eq-eqb (e .task) t p, le-leb n (count t g) (omega arith), lt-leb (suc n) (count t g) (omega arith), left-end t n g (omega arith))
+left-at t n {e = e} (there {f = f} {h = h} a) p q = elim (ℕ-discrete (f .task) t) [
+  | yes z ↦
+      let l = at-lt t a p in
+      rw (eq-eqb (f .task) t z, le-leb n (count t h) (omega arith), le-leb (suc n) (count t h) (omega arith), left-at t n a p q)
+  | no z ↦ rw (ne-eqb (f .task) t z) (left-at t n a p q)
+]
+
+-- the first that is left is the next
+pub left-next : (t n : ℕ) (h : History) (e : Entry) → next t n h ≡ some e → leftOf t n h ≡ filed e ∷ leftOf t (suc n) h
+left-next t n h e p = let a = next-access t n h e p in left-at t n (a .at) (a .own) (omega (arith, a .number))

@@ -1,0 +1,100 @@
+-- One access on the box, by its number: an accepted one leaves what the table says, and a refused one leaves all as it was.
+use mathlib.Core.Bool.{Bool, true, false, cond}
+use mathlib.Core.List.{List, [], _++_, append-nil}
+use mathlib.Core.Path.{_≡_, refl, ap, fun-ext, sym}
+use Prim.Native.Nat.{ℕ, _<_}
+use borrow.Author.Tests.{eqb-true, eqb-false}
+use lib.Dec.{eqb}
+use lib.ListN.{length, getD, length-set}
+use lib.Seq.{getD-set-same, getD-set-other}
+use Rattle.codec.specs.declared.Op.{Op}
+use Rattle.codec.specs.Laws.Decide.{passes, fails, split}
+use Rattle.codec.specs.Laws.Encode.{op-read}
+use Rattle.codec.specs.Laws.Store.{store-front}
+use Rattle.reader.specs.Recording.{Entry as FileEntry}
+use Rattle.reader.specs.Bytes.{entryBytes, entryLength}
+use Rattle.history.specs.Entry.{Entry}
+use Rattle.tracker.specs.declared.State.{State}
+use Rattle.tracker.specs.Laws.Accesses.{entryOf as trackedEntry, memoryAfter as trackedMemory}
+use Rattle.tracker.specs.Next.{nextOf}
+use Rattle.tracker.specs.Orderings.{writtenOf}
+use Rattle.recorder.specs.AccessOf.{isWrite, accepted, refused, valueAfter, memoryAfter, entryOf as writtenEntry}
+use Rattle.recorder.specs.Laws.Accepted.{Takes, takes-accepted, number-refused, number-takes, written-length}
+use Rattle.recorder.specs.WholeRun.{AccessCall, Box, outcome, called}
+use Rattle.fidelity.specs.Box.{accepts, actOf, entryOf}
+use Rattle.fidelity.specs.Filed.{filed}
+
+-- what an accepted call writes, and its entry
+abbrev pub fileEntry : Box → AccessCall → FileEntry
+fileEntry b c = writtenEntry (b .state) (c .task) (c .object) (isWrite (c .sort)) (c .value)
+
+abbrev pub historyEntry : Box → AccessCall → Entry
+historyEntry b c = trackedEntry (b .state) (c .task) (c .object) (isWrite (c .sort)) (c .value) (getD (b .memory) (c .object) 0)
+
+-- the box after an accepted call
+abbrev pub boxAfter : Box → AccessCall → Box
+boxAfter b c = record {
+  state = nextOf (b .state) (c .task) (c .object) (isWrite (c .sort));
+  memory = memoryAfter (isWrite (c .sort)) (c .object) (c .value) (b .memory);
+  logs = λ t. cond (eqb (c .task) t) (b .logs t ++ entryBytes (fileEntry b c)) (b .logs t);
+}
+
+pub data Turn (b : Box) (c : AccessCall) : Type 0 where
+  takenTurn : Takes (b .state) (c .task) (c .object) (c .sort) (c .value) (b .memory) (c .out) → accepts b c ≡ true
+      → outcome b c .answer .value ≡ valueAfter (isWrite (c .sort)) (c .object) (c .value) (b .memory)
+      → entryOf b c ≡ historyEntry b c → called b c ≡ boxAfter b c → Turn b c
+  turnedAway : accepts b c ≡ false → outcome b c .answer .value ≡ 0 → called b c ≡ b → Turn b c
+
+act-same : (s : State) (task object : ℕ) (write : Bool) (value : ℕ) (memory : List ℕ)
+    → _≡_ {A = Entry} (record { task = task; act = actOf write object (valueAfter write object value memory); orderings = writtenOf s task object write })
+    (trackedEntry s task object write value (getD memory object 0))
+act-same s task object true value memory = refl
+act-same s task object false value memory = refl
+
+module _ (b : Box) (c : AccessCall) where
+  took : Takes (b .state) (c .task) (c .object) (c .sort) (c .value) (b .memory) (c .out) → accepts b c ≡ true
+      → outcome b c ≡ accepted (b .state) (c .task) (c .object) (isWrite (c .sort)) (c .value) (b .memory) (c .out) → Turn b c
+  unfolding called accepted
+  took k a e = takenTurn k a (rw e)
+      (rw e (act-same (b .state) (c .task) (c .object) (isWrite (c .sort)) (c .value) (b .memory)))
+      (simp (e, store-front (c .out) (entryBytes (fileEntry b c)) (entryLength (fileEntry b c)) (written-length (b .state) (c .task) (c .object) (isWrite (c .sort)) (c .value)) (k .room)))
+
+  same-logs : (t : ℕ) → cond (eqb (c .task) t) (b .logs t ++ []) (b .logs t) ≡ b .logs t
+  same-logs t = elim (split (eqb (c .task) t)) [
+    | passes p ↦ rw p (append-nil (b .logs t))
+    | fails p ↦ rw p
+  ]
+
+  away : (n : ℕ) → accepts b c ≡ false → outcome b c ≡ refused n (b .state) (b .memory) (c .out) → Turn b c
+  unfolding called refused
+  away n a e = turnedAway a (rw e) (rw e (ap (λ (l : ℕ → List ℕ). record { state = b .state; memory = b .memory; logs = l }) (fun-ext same-logs)))
+
+  pub turn : Turn b c
+  unfolding outcome
+  turn = elim (split (accepts b c)) [
+    | passes p ↦ let k = number-takes (b .state) (c .task) (c .object) (c .sort) (c .value) (b .memory) (c .out) (eqb-true _ _ p) in
+        took k p (takes-accepted (b .state) (c .task) (c .object) (c .sort) (c .value) (b .memory) (c .out) k)
+    | fails p ↦ away _ p (number-refused (b .state) (c .task) (c .object) (c .sort) (c .value) (b .memory) (c .out) (eqb-false _ _ p))
+  ]
+
+  -- the entry in the history and the entry in the recording
+  pub entry-filed : filed (historyEntry b c) ≡ fileEntry b c
+  entry-filed = go (isWrite (c .sort))
+    where
+      go : (write : Bool) → filed (trackedEntry (b .state) (c .task) (c .object) write (c .value) (getD (b .memory) (c .object) 0))
+          ≡ writtenEntry (b .state) (c .task) (c .object) write (c .value)
+      go true = refl
+      go false = ap (λ (o : Op). record { orderings = writtenOf (b .state) (c .task) (c .object) false; op = o }) (op-read (c .object) (getD (b .memory) (c .object) 0) (c .value))
+
+-- memory by object, after an access to an object that it has
+pub memory-after : (memory : List ℕ) (object : ℕ) (write : Bool) (value : ℕ) → object < length memory
+    → trackedMemory (λ c. getD memory c 0) object write value ≡ (λ c. getD (memoryAfter write object value memory) c 0)
+memory-after memory object false value h = refl
+memory-after memory object true value h = fun-ext (λ c. elim (split (eqb object c)) [
+  | passes p ↦ rw (p, ← eqb-true object c p) (sym (getD-set-same memory object value 0 h))
+  | fails p ↦ rw p (sym (getD-set-other memory object c value 0 (λ q. eqb-false object c p (sym q))))
+])
+
+pub memory-length : (memory : List ℕ) (object : ℕ) (write : Bool) (value : ℕ) → length (memoryAfter write object value memory) ≡ length memory
+memory-length memory object true value = length-set memory object value
+memory-length memory object false value = refl

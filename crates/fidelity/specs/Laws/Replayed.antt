@@ -1,0 +1,172 @@
+-- The replay's side of demand 3: for bytes that record a history, every list of steps, by what is proved of the history's replay.
+use mathlib.Core.Bool.{Bool, true, false}
+use mathlib.Core.List.{List}
+use mathlib.Core.Logic.{_↔_}
+use mathlib.Core.Option.{some}
+use mathlib.Core.Path.{_≡_, refl, sym, ap, _∙_, fun-ext}
+use Prim.Native.Nat.{ℕ, zero, suc, _+_, _≤_, _<_}
+use native.Mathlib.Omega.{arith}
+use native.Mathlib.Decide.{decLt}
+use borrow.Author.Tests.{eqb-false, le-ltb}
+use lib.ListN.{length, getD}
+use Rattle.codec.specs.Laws.Decide.{never, passes, fails, split}
+use Rattle.reader.specs.Parse.{Parsed}
+use Rattle.history.specs.Entry.{Entry}
+use Rattle.history.specs.History.{History}
+use Rattle.history.specs.Access.{Access}
+use Rattle.history.specs.Laws.Access.{access-of}
+use Rattle.history.specs.Memory.{reference, memoryOf}
+use Rattle.history.specs.Replay.{State, Reply, fresh, shown, tally, recordedOrder}
+use Rattle.history.specs.Ready.{Ready}
+use Rattle.history.specs.Faithful.{after, Faithful}
+use Rattle.history.specs.Laws.Faithful.{faithful}
+use Rattle.replayer.specs.declared.Stepped.{Stepped}
+use Rattle.replayer.specs.Laws.All.{all-test}
+use Rattle.playback.specs.Finish.{tasksIn, finishedOf}
+use Rattle.replayer.specs.OpenOf.{openOf}
+use Rattle.replayer.specs.Laws.ReadyOf.{ReadySet, ready-word}
+use Rattle.replayer.specs.ReadyOf.{isReady as isReadyBy, readyOf}
+use Rattle.replayer.specs.Run.{taskAt}
+use Rattle.replayer.specs.Laws.StepOf.{refused-stays}
+use Rattle.replayer.specs.Word.{wordOf, hasBit}
+use Rattle.fidelity.specs.Bench.{Bench, benchOf, answerOf, stepped, steppedAll, takes as takesBy, tally as tallyBy, tallyOf as tallyOfBy, AllTaken as AllTakenBy}
+use Rattle.fidelity.specs.Laws.Matches.{Matches}
+use Rattle.fidelity.specs.Laws.Sim.{Sim, sim-ready}
+use Rattle.fidelity.specs.Laws.SimStep.{Alike, sim-step}
+use Rattle.fidelity.specs.Laws.SimRun.{sim-run, tally-same, tally-of-same, all-taken-same}
+use Rattle.fidelity.specs.Laws.SimStart.{holds, sim-start}
+use Rattle.fidelity.specs.Statement.{Shows}
+
+-- a word is 0 exactly when no bit is set
+no-bit : (t : ℕ) → hasBit 0 t ≡ false
+unfolding hasBit
+no-bit zero = refl
+no-bit (suc t) = no-bit t
+
+none-set : (f : ℕ → Bool) (i n : ℕ) → ((t : ℕ) → t < i + n → f t ≡ false) → wordOf f i n ≡ 0
+unfolding wordOf
+none-set f i zero e = refl
+none-set f i (suc n) e = rw (e i (omega arith), none-set f (suc i) n (λ t l. e t (omega arith)))
+
+act-of : {r s : Reply} → some r ≡ some s → r .act ≡ s .act
+act-of q = cc
+
+tasks-in : (tasks : ℕ) → tasksIn tasks ≤ tasks
+tasks-in tasks = omega arith
+
+-- a step that is not taken leaves all as it was
+pub refused-changes-nothing : (bytes : List ℕ) (b : Bench) (t : ℕ) → takesBy bytes b t ≡ false → stepped bytes b t ≡ b
+refused-changes-nothing bytes b t q =
+    let w = refused-stays (b .run) bytes (b .memory) t (eqb-false _ _ q) in
+    rw (w .after, ap (λ (s : Stepped). s .run) (w .answer))
+
+module _ (start : ℕ → ℕ) (h : History) (bytes : List ℕ) (p : Parsed) (m : Matches start h bytes p) (memory : List ℕ) (z : openOf bytes memory .answer .number ≡ 0) where
+  abbrev tasks : ℕ
+  tasks = p .recording .tasks
+
+  abbrev objects : ℕ
+  objects = length (p .recording .owners)
+
+  abbrev first : Bench
+  first = benchOf bytes memory
+
+  ideal : Faithful start h
+  ideal = faithful (m .sound)
+
+  sim : (steps : List ℕ) → Sim h bytes tasks objects (after start h steps) (steppedAll bytes first steps)
+  sim steps = sim-run h bytes tasks objects (holds start h bytes p m) (fresh start) first (sim-start start h bytes p m memory z) steps
+
+  alike : (steps : List ℕ) (t : ℕ) → Alike h bytes tasks objects (after start h steps) (steppedAll bytes first steps) t
+  alike steps t = sim-step h bytes tasks objects (holds start h bytes p m) (after start h steps) (steppedAll bytes first steps) (sim steps) t
+
+  -- done on the bench is done in the history's replay
+  done-same : (steps : List ℕ) → (λ t. tallyOfBy t bytes first steps) ≡ after start h steps .done
+  done-same steps = fun-ext (λ t. tally-of-same h bytes tasks objects (holds start h bytes p m) t (fresh start) first (sim-start start h bytes p m memory z) steps
+      ∙ sym (ideal .done-is-tally steps t))
+
+  counts-same : (steps : List ℕ) → tallyBy bytes first steps ≡ tally h (fresh start) steps
+  counts-same steps = tally-same h bytes tasks objects (holds start h bytes p m) (fresh start) first (sim-start start h bytes p m memory z) steps
+
+  pub taken-when-ready : (steps : List ℕ) (t : ℕ) → (takesBy bytes (steppedAll bytes first steps) t ≡ true) ↔ Ready h (λ u. tallyOfBy u bytes first steps) t
+  taken-when-ready steps t = rw (done-same steps, alike steps t .same) (ideal .taken-when-ready steps t)
+
+  pub answers-recorded : (steps : List ℕ) (t : ℕ) → takesBy bytes (steppedAll bytes first steps) t ≡ true
+      → (e : Entry) × Access h t (suc (tallyOfBy t bytes first steps)) e
+      × (answerOf bytes (steppedAll bytes first steps) t .access ≡ suc (tallyOfBy t bytes first steps)) × Shows (answerOf bytes (steppedAll bytes first steps) t) (e .act)
+  answers-recorded steps t y =
+      let s : State = after start h steps in
+      let d : tallyOfBy t bytes first steps ≡ s .done t = ap (λ (f : ℕ → ℕ). f t) (done-same steps) in
+      let a = alike steps t in
+      let (e, w) = a .played y in
+      let (f, access, replies) = ideal .answers-recorded steps t (sym (a .same) ∙ y) in
+      let v : shown (e .act) (s .memory) ≡ f .act = act-of (sym (w .replies) ∙ replies) in
+      rw d (f, access, w .number, rw v at (w .shows))
+
+  -- the bench's run is sound after any steps, so its word is that of the ready tasks
+  word : (steps : List ℕ) → ReadySet (steppedAll bytes first steps .run) bytes
+  word steps = ready-word (steppedAll bytes first steps .run) bytes (sim steps .sound)
+
+  pub word-sound : (steps : List ℕ) → readyOf (steppedAll bytes first steps .run) bytes .number ≡ 0
+  word-sound steps = word steps .number
+
+  none-above : (steps : List ℕ) (t : ℕ) → tasks ≤ t → Ready h (after start h steps .done) t → ⊥
+  none-above steps t l r =
+      let (e, a) = access-of t (after start h steps .done t) h (r .left) in
+      let own = a .own in
+      let k : e .task < tasks = m .tasks-low (a .at) in
+      let k2 : t < tasks = rw own at k in
+      omega arith
+
+  pub word-ready : (steps : List ℕ) (t : ℕ) → (hasBit (readyOf (steppedAll bytes first steps .run) bytes .word) t ≡ true) ↔ Ready h (λ u. tallyOfBy u bytes first steps) t
+  word-ready steps t = rw (done-same steps) (elim (decLt t tasks) [
+    | yes l ↦ rw (word steps .bit t (omega (arith, sim steps .tasks-same)), sim-ready h bytes tasks objects (after start h steps) (steppedAll bytes first steps) (sim steps) t l)
+        (ideal .test-tells-ready steps t)
+    | no l ↦ (
+      λ q. absurd (never (hasBit (readyOf (steppedAll bytes first steps .run) bytes .word) t) q (word steps .above t (omega (arith, sim steps .tasks-same)))),
+      λ r. absurd (none-above steps t (omega arith) r),
+    )
+  ])
+
+  pub never-more : (steps : List ℕ) → tallyBy bytes first steps ≤ length h
+  never-more steps = rw (counts-same steps) (ideal .tally-bounded steps)
+
+  word-none : (steps : List ℕ) → ((t : ℕ) → Ready h (after start h steps .done) t → ⊥) → readyOf (steppedAll bytes first steps .run) bytes .word ≡ 0
+  unfolding readyOf
+  word-none steps idle = rw (sim steps .sound) (none-set (isReadyBy (steppedAll bytes first steps .run) bytes) 0 (steppedAll bytes first steps .run .tasks) each)
+    where
+      each : (t : ℕ) → t < 0 + steppedAll bytes first steps .run .tasks → isReadyBy (steppedAll bytes first steps .run) bytes t ≡ false
+      each t l = elim (split (isReadyBy (steppedAll bytes first steps .run) bytes t)) [
+        | fails q ↦ q
+        | passes q ↦ absurd (idle t (ideal .test-tells-ready steps t .0
+            (sym (sim-ready h bytes tasks objects (after start h steps) (steppedAll bytes first steps) (sim steps) t (omega (arith, sim steps .tasks-same))) ∙ q)))
+      ]
+
+  pub stops-at-end : (steps : List ℕ) → (readyOf (steppedAll bytes first steps .run) bytes .word ≡ 0) ↔ (tallyBy bytes first steps ≡ length h)
+  stops-at-end steps = rw (counts-same steps) (
+    λ q. ideal .stops-at-end steps .0 (λ t r.
+        let x : hasBit (readyOf (steppedAll bytes first steps .run) bytes .word) t ≡ true = word-ready steps t .1 (rw (done-same steps) r) in
+        never (hasBit 0 t) (rw q at x) (no-bit t)),
+    λ q. word-none steps (ideal .stops-at-end steps .1 q),
+  )
+
+  pub end-memory : (steps : List ℕ) → tallyBy bytes first steps ≡ length h → (c : ℕ) → c < objects → getD (steppedAll bytes first steps .memory) c 0 ≡ reference start h c
+  end-memory steps q c l = sim steps .memory c l ∙ ideal .end-memory steps (sym (counts-same steps) ∙ q) c
+
+  -- where all accesses are done no task has any left
+  pub end-finished : (steps : List ℕ) → tallyBy bytes first steps ≡ length h → finishedOf (steppedAll bytes first steps .run) ≡ true
+  end-finished steps q = all-test _ _ (λ t l.
+      let i = sim steps in
+      let f : tasksIn (steppedAll bytes first steps .run .tasks) ≤ steppedAll bytes first steps .run .tasks = tasks-in _ in
+      let d = ideal .end-done steps (sym (counts-same steps) ∙ q) t in
+      let x = taskAt (steppedAll bytes first steps .run .runs) t in
+      rw (le-ltb (x .done) (x .count) (omega (arith, d, i .done t, i .counts t (omega (arith, l, f, i .tasks-same))))))
+
+  -- memory after any steps: the starting values with the writes of the accesses done
+  pub memory-of-writes : (steps : List ℕ) (c : ℕ) → c < objects → getD (steppedAll bytes first steps .memory) c 0 ≡ memoryOf start (λ t. tallyOfBy t bytes first steps) h c
+  memory-of-writes steps c l = rw (done-same steps) (sim steps .memory c l ∙ ideal .memory-of-writes steps c)
+
+  pub memory-entries : (steps : List ℕ) → length (steppedAll bytes first steps .memory) ≡ objects
+  memory-entries steps = sim steps .entries
+
+  pub recorded-order : AllTakenBy bytes first (recordedOrder h)
+  recorded-order = all-taken-same h bytes tasks objects (holds start h bytes p m) (fresh start) first (sim-start start h bytes p m memory z) (recordedOrder h) (ideal .recorded-order)

@@ -1,0 +1,62 @@
+-- A run over bytes goes as the replay of the history that the bytes record: what the two have in common, kept by every step.
+use mathlib.Core.Bool.{true}
+use mathlib.Core.List.{List, [], _∷_}
+use mathlib.Core.Option.{Option, some, none}
+use mathlib.Core.Path.{_≡_, refl}
+use Prim.Native.Nat.{ℕ, suc, _<_}
+use native.Mathlib.Omega.{arith}
+use borrow.Author.Tests.{lt-ltb, le-ltb}
+use lib.ListN.{length, getD}
+use Rattle.codec.specs.declared.Position.{Position}
+use Rattle.history.specs.Entry.{Entry}
+use Rattle.history.specs.History.{History, count}
+use Rattle.history.specs.Laws.Access.{access-bound}
+use Rattle.history.specs.Replay.{State, next, allMet, isReady}
+use Rattle.history.specs.Laws.Ready.{next-access, next-none}
+use Rattle.replayer.specs.declared.TaskRun.{TaskRun}
+use Rattle.replayer.specs.Laws.Left.{Left, left-entry}
+use Rattle.replayer.specs.Met.{allMet as allMetBy}
+use Rattle.replayer.specs.Laws.Moved.{Shaped}
+use Rattle.replayer.specs.Next.{entryNext, nextOf}
+use Rattle.replayer.specs.Laws.Next.{open-met}
+use Rattle.replayer.specs.ReadyOf.{isReady as isReadyBy}
+use Rattle.replayer.specs.Run.{taskAt, doneOf}
+use Rattle.replayer.specs.Sound.{soundOf}
+use Rattle.fidelity.specs.Bench.{Bench}
+use Rattle.fidelity.specs.Filed.{filed}
+use Rattle.fidelity.specs.Laws.LeftOver.{leftOf, left-next}
+
+pub record Sim (h : History) (bytes : List ℕ) (tasks objects : ℕ) (s : State) (b : Bench) : Type 0 where
+  pub sound : soundOf (b .run) (length bytes) ≡ true
+  pub shaped : Shaped (b .run)
+  pub tasks-same : b .run .tasks ≡ tasks
+  pub objects-same : b .run .objects ≡ objects
+  pub entries : length (b .memory) ≡ objects
+  pub done : (t : ℕ) → doneOf (b .run .runs) t ≡ s .done t
+  pub counts : (t : ℕ) → t < tasks → taskAt (b .run .runs) t .count ≡ count t h
+  pub left : (t : ℕ) → t < tasks → Left (b .run) bytes t (leftOf t (s .done t) h)
+  pub memory : (c : ℕ) → c < objects → getD (b .memory) c 0 ≡ s .memory c
+
+met-same : (runs : List TaskRun) (done : ℕ → ℕ) (l : List Position) → ((t : ℕ) → doneOf runs t ≡ done t) → allMetBy runs l ≡ allMet done l
+unfolding allMetBy
+met-same runs done [] e = refl
+met-same runs done (p ∷ l) e = rw (e (p .task), met-same runs done l e)
+
+module _ (h : History) (bytes : List ℕ) (tasks objects : ℕ) (s : State) (b : Bench) (i : Sim h bytes tasks objects s b) (t : ℕ) (low : t < tasks) where
+  -- a task is ready on the bench exactly when it is in the replay of the history
+  pub sim-ready : isReadyBy (b .run) bytes t ≡ isReady h s t
+  unfolding isReadyBy nextOf
+  sim-ready = go (next t (s .done t) h) refl
+    where
+      go : (o : Option Entry) → next t (s .done t) h ≡ o → isReadyBy (b .run) bytes t ≡ isReady h s t
+      go none p =
+          let l = next-none t (s .done t) h p in
+          rw (p, le-ltb (taskAt (b .run .runs) t .done) (taskAt (b .run .runs) t .count) (omega (arith, i .done t, i .counts t low)))
+      go (some e) p =
+          let l = access-bound (next-access t (s .done t) h e p) in
+          let w : Left (b .run) bytes t (filed e ∷ leftOf t (suc (s .done t)) h) = rw (left-next t (s .done t) h e p) at (i .left t low) in
+          rw (
+            p,
+            lt-ltb (taskAt (b .run .runs) t .done) (taskAt (b .run .runs) t .count) (omega (arith, i .done t, i .counts t low)),
+            open-met (b .run .runs) (taskAt (b .run .runs) t .place) (entryNext (b .run) bytes t) (filed e) (left-entry (b .run) bytes t (filed e) _ w),
+          ) (met-same (b .run .runs) (s .done) (e .orderings) (i .done))

@@ -1,0 +1,181 @@
+-- One step over bytes and one step of the history's replay: both are taken or neither, and what they have in common is kept.
+use mathlib.Core.Bool.{true, false}
+use mathlib.Core.List.{List, _∷_}
+use mathlib.Core.Option.{some}
+use mathlib.Core.Path.{_≡_, sym, ap, _∙_}
+use Prim.Native.Nat.{ℕ, suc, _+_, _<_}
+use native.Mathlib.Omega.{arith}
+use native.Mathlib.Decide.{ℕ-discrete}
+use borrow.Author.Tests.{eq-eqb, ne-eqb, eqb-true}
+use lib.ListN.{length, getD}
+use lib.Seq.{getD-set-same, getD-set-other}
+use Rattle.codec.specs.declared.Op.{Op}
+use Rattle.codec.specs.Laws.Decide.{never}
+use Rattle.codec.specs.Laws.Encode.{op-reads, op-writes, op-object, op-value}
+use Rattle.codec.specs.Kind.{reads, writes}
+use Rattle.reader.specs.Bytes.{entryLength}
+use Rattle.reader.specs.Reading.{read}
+use Rattle.reader.specs.Recording.{Entry as FileEntry}
+use Rattle.history.specs.Entry.{Act, Entry}
+use Rattle.history.specs.History.{History, count, At}
+use Rattle.history.specs.Access.{Access}
+use Rattle.history.specs.Replay.{State, isReady, oneMore, perform, shown, step, answer, takes}
+use Rattle.history.specs.Laws.Ready.{access-next}
+use Rattle.history.specs.Laws.Step.{Taken, Refused, taken, refused, step-goes}
+use Rattle.replayer.specs.declared.TaskRun.{TaskRun}
+use Rattle.replayer.specs.declared.Stepped.{Stepped}
+use Rattle.replayer.specs.Laws.Left.{Left, left-entry, left-own, left-other}
+use Rattle.replayer.specs.Memory.{performed, valueOf}
+use Rattle.replayer.specs.Laws.Moved.{moved-own, moved-other}
+use Rattle.replayer.specs.Run.{taskAt, doneOf, movedOf}
+use Rattle.replayer.specs.Laws.StepOf.{Taken as TakenBy, Turned, taken as takenBy, turned, step-goes as step-goes-by, step-keeps}
+use Rattle.fidelity.specs.Bench.{Bench, answerOf, stepped, takes as takesBy}
+use Rattle.fidelity.specs.Filed.{filed, filedOp}
+use Rattle.fidelity.specs.Laws.LeftOver.{leftOf, left-next}
+use Rattle.fidelity.specs.Laws.Matches.{Recordable}
+use Rattle.fidelity.specs.Laws.Sim.{Sim, sim-ready}
+use Rattle.fidelity.specs.Statement.{Shows}
+
+-- an act done on a list and on a function that agree
+perform-same : (a : Act) (memory : List ℕ) (m : ℕ → ℕ) (n : ℕ) → ((c : ℕ) → c < n → getD memory c 0 ≡ m c) → length memory ≡ n → filedOp a .object < n → Recordable a
+    → (c : ℕ) → c < n → getD (performed (filedOp a) memory) c 0 ≡ perform a m c
+perform-same (Act.read x v) memory m n e l low r c k = rw (op-writes false x v) (e c k)
+perform-same (Act.write x v) memory m n e l low r c k = elim (ℕ-discrete x c) [
+  | yes p ↦ rw (op-writes true x v, op-object, op-value, eq-eqb x c p, ← p) (getD-set-same memory x v 0 (omega (arith, op-object true x v)))
+  | no p ↦ rw (op-writes true x v, op-object, op-value, ne-eqb x c p) (getD-set-other memory x c v 0 (λ z. p (sym z)) ∙ e c k)
+]
+perform-same (Act.acquire n₁) memory m n e l low r c k = absurd r
+
+-- what a step answers of it
+shows-same : (a : Act) (memory : List ℕ) (m : ℕ → ℕ) (n : ℕ) → ((c : ℕ) → c < n → getD memory c 0 ≡ m c) → filedOp a .object < n → Recordable a
+    → (r : Stepped) → r .kind ≡ filedOp a .kind → r .object ≡ filedOp a .object → r .value ≡ valueOf (filedOp a) memory → Shows r (shown a m)
+shows-same (Act.read x v) memory m n e low rec r k o w = (ap reads k ∙ op-reads false x v, o ∙ op-object false x v, w ∙ rw (op-writes false x v, op-object) (e x (rw op-object at low)))
+shows-same (Act.write x v) memory m n e low rec r k o w = (ap writes k ∙ op-writes true x v, o ∙ op-object true x v, w ∙ rw (op-writes true x v) (op-value x v))
+shows-same (Act.acquire x) memory m n e low rec r k o w = absurd rec
+
+-- a taken step and its entry
+pub record Played (h : History) (bytes : List ℕ) (s : State) (b : Bench) (t : ℕ) (e : Entry) : Type 0 where
+  pub access : Access h t (suc (s .done t)) e
+  pub replies : answer h s t ≡ some (record { number = suc (s .done t); act = shown (e .act) (s .memory) })
+  pub number : answerOf bytes b t .access ≡ suc (s .done t)
+  pub shows : Shows (answerOf bytes b t) (shown (e .act) (s .memory))
+
+pub record Alike (h : History) (bytes : List ℕ) (tasks objects : ℕ) (s : State) (b : Bench) (t : ℕ) : Type 0 where
+  pub same : takesBy bytes b t ≡ takes h s t
+  pub sim : Sim h bytes tasks objects (step h s t) (stepped bytes b t)
+  pub played : takesBy bytes b t ≡ true → (e : Entry) × Played h bytes s b t e
+
+-- every entry is one that a recording of so many tasks can hold
+pub record Holds (h : History) (tasks : ℕ) : Type 0 where
+  pub low : {e : Entry} {g : History} → At e g h → e .task < tasks
+  pub recordable : {e : Entry} {g : History} → At e g h → Recordable (e .act)
+
+module _ (h : History) (bytes : List ℕ) (tasks objects : ℕ) (holds : Holds h tasks) (s : State) (b : Bench) (i : Sim h bytes tasks objects s b) (t : ℕ) where
+  -- both are taken
+  module _ (op : Op) (nx : ℕ) (w : TakenBy (b .run) bytes (b .memory) t op nx) (e : Entry) (k : Taken h s t e) where
+    below : t < tasks
+    below = omega (arith, w .below, i .tasks-same)
+
+    first : leftOf t (s .done t) h ≡ filed e ∷ leftOf t (suc (s .done t)) h
+    first = left-next t (s .done t) h e (access-next (k .access))
+
+    left-now : Left (b .run) bytes t (filed e ∷ leftOf t (suc (s .done t)) h)
+    left-now = rw first at (i .left t below)
+
+    entry-is : w .entry .entry ≡ filed e
+    entry-is =
+        let p : read (w .entry .entry) ≡ read (filed e) = sym (w .entry .reads) ∙ left-entry (b .run) bytes t (filed e) (leftOf t (suc (s .done t)) h) left-now in
+        cc
+
+    op-is : op ≡ filedOp (e .act)
+    op-is = w .entry .op ∙ ap (λ (f : FileEntry). f .op) entry-is
+
+    next-is : nx ≡ taskAt (b .run .runs) t .place + entryLength (filed e)
+    next-is = w .entry .next ∙ ap (λ (f : FileEntry). taskAt (b .run .runs) t .place + entryLength f) entry-is
+
+    few : t < 16
+    few = omega (arith, w .below, Rattle.replayer.specs.Laws.Sound.sound-facts (b .run) (length bytes) (i .sound) .few-tasks)
+
+    object-low : filedOp (e .act) .object < objects
+    object-low = let o : op .object < objects = omega (arith, w .object, i .entries) in rw op-is at o
+
+    done-moved : (u : ℕ) → doneOf (movedOf (b .run) t nx .runs) u ≡ oneMore t (s .done) u
+    unfolding oneMore
+    done-moved u = elim (ℕ-discrete u t) [
+      | yes p ↦
+          let q : doneOf (movedOf (b .run) t nx .runs) t ≡ doneOf (b .run .runs) t + 1 = ap (λ (x : TaskRun). x .done) (moved-own (b .run) t nx (i .shaped) few) in
+          rw (eq-eqb u t p, p) (omega (arith, q, i .done t))
+      | no p ↦ rw (ne-eqb u t p) (ap (λ (x : TaskRun). x .done) (moved-other (b .run) t nx u p) ∙ i .done u)
+    ]
+
+    counts-moved : (u : ℕ) → u < tasks → taskAt (movedOf (b .run) t nx .runs) u .count ≡ count u h
+    counts-moved u l = elim (ℕ-discrete u t) [
+      | yes p ↦ rw (p, moved-own (b .run) t nx (i .shaped) few) (i .counts t below)
+      | no p ↦ rw (moved-other (b .run) t nx u p) (i .counts u l)
+    ]
+
+    left-moved : (u : ℕ) → u < tasks → Left (movedOf (b .run) t nx) bytes u (leftOf u (oneMore t (s .done) u) h)
+    unfolding oneMore
+    left-moved u l = elim (ℕ-discrete u t) [
+      | yes p ↦ rw (eq-eqb u t p, p, next-is) (left-own (b .run) bytes t (filed e) (leftOf t (suc (s .done t)) h) (i .shaped) few left-now)
+      | no p ↦ rw (ne-eqb u t p) (left-other (b .run) bytes u t nx (leftOf u (s .done u) h) p (i .left u l))
+    ]
+
+    both-taken : Alike h bytes tasks objects s b t
+    both-taken =
+        let keep = step-keeps (b .run) bytes (b .memory) t (i .sound) (i .shaped) (i .entries ∙ sym (i .objects-same)) in
+        record {
+          same = rw (w .number, k .answers);
+          sim = rw (k .moves) (record {
+            sound = keep .sound;
+            shaped = keep .shaped;
+            tasks-same = keep .tasks ∙ i .tasks-same;
+            objects-same = keep .objects ∙ i .objects-same;
+            entries = keep .entries ∙ i .entries;
+            done = λ u. rw (w .run) (done-moved u);
+            counts = λ u l. rw (w .run) (counts-moved u l);
+            left = λ u l. rw (w .run) (left-moved u l);
+            memory = λ c l. rw (w .after, op-is) (perform-same (e .act) (b .memory) (s .memory) objects (i .memory) (i .entries) object-low (holds .recordable (k .access .at)) c l);
+          });
+          played = λ z. (
+            e,
+            record {
+              access = k .access;
+              replies = k .answers;
+              number = w .access ∙ (omega (arith, i .done t));
+              shows = shows-same (e .act) (b .memory) (s .memory) objects (i .memory) object-low (holds .recordable (k .access .at)) (answerOf bytes b t)
+                  (w .kind ∙ ap (λ (o : Op). o .kind) op-is) (w .names ∙ ap (λ (o : Op). o .object) op-is) (w .value ∙ ap (λ (o : Op). valueOf o (b .memory)) op-is);
+            },
+          );
+        }
+
+  -- neither is taken
+  neither : Turned (b .run) bytes (b .memory) t → Refused h s t → Alike h bytes tasks objects s b t
+  neither w k =
+      let e : answerOf bytes b t .run ≡ b .run = ap (λ (x : Stepped). x .run) (w .answer) in
+      record {
+        same = ne-eqb (answerOf bytes b t .number) 0 (w .number) ∙ rw (k .silent);
+        sim = rw (k .stays, e, w .after) i;
+        played = λ z. absurd (w .number (eqb-true _ _ z));
+      }
+
+  -- the replay's own test and the bench's
+  ready-low : isReady h s t ≡ true → t < tasks
+  ready-low p = elim (step-goes h s t) [
+    | taken e k ↦ let own = k .access .own in let l = holds .low (k .access .at) in rw own at l
+    | refused k ↦ absurd (never (isReady h s t) p (k .unready))
+  ]
+
+  pub sim-step : Alike h bytes tasks objects s b t
+  sim-step = elim (step-goes-by (b .run) bytes (b .memory) t (i .sound) (i .entries ∙ sym (i .objects-same))) [
+    | takenBy op nx w ↦ elim (step-goes h s t) [
+      | taken e k ↦ both-taken op nx w e k
+      | refused k ↦ absurd (never (isReady h s t) (sym (sim-ready h bytes tasks objects s b i t (omega (arith, w .below, i .tasks-same))) ∙ w .ready) (k .unready))
+    ]
+    | turned u w ↦ elim (step-goes h s t) [
+      | refused k ↦ neither w k
+      | taken e k ↦
+          let l : t < tasks = ready-low (k .ready) in
+          absurd (never (isReady h s t) (k .ready) (sym (sim-ready h bytes tasks objects s b i t l) ∙ u (omega (arith, i .tasks-same))))
+    ]
+  ]

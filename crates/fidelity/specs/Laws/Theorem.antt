@@ -1,0 +1,70 @@
+-- DEMAND 3, proved: whatever calls were made and whatever steps are asked for, the replay is faithful. And what the statement
+-- assumes can be had: with output and memory enough no section and no replay opening is turned away.
+use mathlib.Core.Bool.{true}
+use mathlib.Core.List.{List}
+use mathlib.Core.Path.{_≡_, refl, sym, _∙_}
+use Prim.Native.Nat.{ℕ, _+_, _≤_, _<_}
+use lib.ListN.{length}
+use lib.Seq.{ext-getD}
+use Rattle.reader.specs.Calls.{checkedOf}
+use Rattle.playback.specs.Finish.{finishedOf}
+use Rattle.replayer.specs.Laws.OpenOf.{open-accepts}
+use Rattle.fidelity.specs.Bench.{tally, benchOf}
+use Rattle.fidelity.specs.Box.{Opening, openedBy, Asked, lastBox, recorded, recordingOf}
+use Rattle.fidelity.specs.Laws.BoxMatches.{parsedBy, owner-each, box-memory, memory-each, sections-accepted, recording-parsed, box-matches}
+use Rattle.fidelity.specs.Laws.BoxReference.{answers-reference, memory-reference}
+use Rattle.fidelity.specs.Laws.FirstBox.{startOf}
+use Rattle.fidelity.specs.Laws.Matches.{Matches}
+use Rattle.fidelity.specs.Laws.Replayed.{taken-when-ready, refused-changes-nothing, answers-recorded, word-sound, word-ready, memory-of-writes, never-more, stops-at-end, end-memory, end-finished, memory-entries, recorded-order}
+use Rattle.fidelity.specs.Statement.{Accepted, after, Faithful}
+
+module _ (o : Opening) (asked : List Asked) (outs : ℕ → List ℕ) (memory : List ℕ) (a : Accepted o asked outs memory) where
+  matches : Matches (startOf o) (recorded o asked) (recordingOf o asked outs) (parsedBy o asked)
+  matches = box-matches o (a .opened) asked outs (a .packed)
+
+  -- equal value by value, and as long: equal
+  ends-equal : (steps : List ℕ) → tally (recordingOf o asked outs) (benchOf (recordingOf o asked outs) memory) steps ≡ length (recorded o asked)
+      → after o asked outs memory steps .memory ≡ lastBox o asked .memory
+  ends-equal steps e =
+      let n = memory-entries (startOf o) (recorded o asked) (recordingOf o asked outs) (parsedBy o asked) matches memory (a .replayed) steps in
+      ext-getD 0 (after o asked outs memory steps .memory) (lastBox o asked .memory) (n ∙ owner-each o (a .opened) ∙ sym (memory-each o (a .opened) asked))
+      (λ c l. end-memory (startOf o) (recorded o asked) (recordingOf o asked outs) (parsedBy o asked) matches memory (a .replayed) steps e c (rw n at l)
+      ∙ sym (box-memory o (a .opened) asked c))
+
+  entries : (steps : List ℕ) → length (after o asked outs memory steps .memory) ≡ o .objects
+  entries steps = memory-entries (startOf o) (recorded o asked) (recordingOf o asked outs) (parsedBy o asked) matches memory (a .replayed) steps ∙ owner-each o (a .opened)
+
+  -- where all accesses are done no task has any left
+  pub run-finished : (steps : List ℕ) → tally (recordingOf o asked outs) (benchOf (recordingOf o asked outs) memory) steps ≡ length (recorded o asked)
+      → finishedOf (after o asked outs memory steps .run) ≡ true
+  run-finished steps e = end-finished (startOf o) (recorded o asked) (recordingOf o asked outs) (parsedBy o asked) matches memory (a .replayed) steps e
+
+  pub demand-3 : Faithful o asked outs memory
+  unfolding checkedOf
+  demand-3 = record {
+    answers-reference = answers-reference o (a .opened) asked;
+    memory-reference = memory-reference o (a .opened) asked;
+    reader-takes = rw (recording-parsed o (a .opened) asked outs (a .packed));
+    reads-back = (parsedBy o asked, recording-parsed o (a .opened) asked outs (a .packed), refl);
+    taken-when-ready = taken-when-ready (startOf o) (recorded o asked) (recordingOf o asked outs) (parsedBy o asked) matches memory (a .replayed);
+    refused-changes-nothing = λ steps t. refused-changes-nothing (recordingOf o asked outs) (after o asked outs memory steps) t;
+    answers-recorded = answers-recorded (startOf o) (recorded o asked) (recordingOf o asked outs) (parsedBy o asked) matches memory (a .replayed);
+    word-sound = word-sound (startOf o) (recorded o asked) (recordingOf o asked outs) (parsedBy o asked) matches memory (a .replayed);
+    word-ready = word-ready (startOf o) (recorded o asked) (recordingOf o asked outs) (parsedBy o asked) matches memory (a .replayed);
+    memory-entries = entries;
+    memory-of-writes = λ steps c l. memory-of-writes (startOf o) (recorded o asked) (recordingOf o asked outs) (parsedBy o asked) matches memory (a .replayed) steps c (rw (owner-each o (a .opened)) l);
+    never-more = never-more (startOf o) (recorded o asked) (recordingOf o asked outs) (parsedBy o asked) matches memory (a .replayed);
+    stops-at-end = stops-at-end (startOf o) (recorded o asked) (recordingOf o asked outs) (parsedBy o asked) matches memory (a .replayed);
+    end-memory = ends-equal;
+    recorded-order = recorded-order (startOf o) (recorded o asked) (recordingOf o asked outs) (parsedBy o asked) matches memory (a .replayed);
+  }
+
+-- with outputs that hold the logs behind their section records, and a memory of N entries, everything is accepted
+pub acceptance : (o : Opening) (asked : List Asked) (outs : ℕ → List ℕ) (memory : List ℕ) → openedBy o .answer .number ≡ 0
+    → ((t : ℕ) → t < o .tasks → 12 + length (lastBox o asked .logs t) ≤ length (outs t)) → length memory ≡ o .objects → Accepted o asked outs memory
+acceptance o asked outs memory z room each = record {
+  opened = z;
+  packed = λ t l. sections-accepted o z asked t l (outs t) (room t l);
+  replayed = rw (open-accepts (recordingOf o asked outs) memory (parsedBy o asked)
+      (recording-parsed o z asked outs (λ t l. sections-accepted o z asked t l (outs t) (room t l))) (each ∙ sym (owner-each o z)));
+}

@@ -1,0 +1,8 @@
+pub mod AskedCode
+pub mod Fields
+pub mod FieldsCode
+pub mod Found
+pub mod Lines
+pub mod Number
+pub mod RowCode
+pub mod Words

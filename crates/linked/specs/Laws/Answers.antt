@@ -1,0 +1,10 @@
+-- Laws of `Answers`.
+use mathlib.Core.Bool.{Bool, true, false}
+use mathlib.Core.Path.{_≡_, refl}
+use mir.Val.{boolByte}
+use Rattle.replayer.specs.Word.{bit}
+
+-- a bool that is cast is its bit
+pub bool-bit : (b : Bool) → boolByte b ≡ bit b
+bool-bit true = refl
+bool-bit false = refl

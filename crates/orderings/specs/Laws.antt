@@ -1,0 +1,2 @@
+pub mod LogTurn
+pub mod Orders

@@ -1,0 +1,111 @@
+-- The order of a play: it is that of the play to the end, each of its steps is taken, and no task is ready behind it.
+use mathlib.Core.Path.{_≡_, refl}
+use mathlib.Core.Bool.{true}
+use mathlib.Core.List.{List, [], _∷_}
+use Prim.Native.Nat.{ℕ, zero, suc, _≤_}
+use native.Mathlib.Decide.{ℕ-discrete}
+use native.Mathlib.Omega.{arith}
+use lib.ListN.{length}
+use borrow.Author.Tests.{eq-eqb, ne-eqb}
+use Rattle.codec.specs.declared.Op.{Op}
+use Rattle.replayer.specs.declared.Run.{Run}
+use Rattle.playback.specs.Finish.{Play, onward, playedOf, leftOver, finishOf}
+use Rattle.playback.specs.Laws.Finish.{Playing, goes-onward, finish-ends}
+use Rattle.playback.specs.Laws.FinishCode.{step-open}
+use Rattle.playback.specs.Laws.Lowest.{IsNext, goes-on, stops, standing, behind}
+use Rattle.replayer.specs.Laws.Moved.{Shaped, moved-shaped}
+use Rattle.replayer.specs.Next.{nextOf}
+use Rattle.replayer.specs.ReadyOf.{readyOf}
+use Rattle.replayer.specs.Run.{movedOf}
+use Rattle.playback.specs.Schedule.{nextTask, behindOf, scheduleFrom, scheduleOf, steppedBy, playedBy}
+use Rattle.replayer.specs.Sound.{soundOf}
+use Rattle.replayer.specs.StepOf.{onNext, stepOf}
+
+-- no task is ready, or the next one is stepped
+pub schedule-stops : (n : ℕ) (b : List ℕ) (r : Run) → readyOf r b .word ≡ 0 → scheduleFrom n b r ≡ []
+unfolding scheduleFrom
+schedule-stops zero b r z = refl
+schedule-stops (suc n) b r z = rw (eq-eqb (readyOf r b .word) 0 z)
+
+pub schedule-goes : (n : ℕ) (b : List ℕ) (r : Run) (t : ℕ) (op : Op) (next : ℕ) → IsNext r b t op next → scheduleFrom (suc n) b r ≡ t ∷ scheduleFrom n b (movedOf r t next)
+unfolding scheduleFrom behindOf
+schedule-goes n b r t op next w = rw (ne-eqb (readyOf r b .word) 0 (w .goes), w .first, w .opens)
+
+-- as many steps as accesses are left are enough
+pub schedule-enough : (b : List ℕ) (r : Run) (n : ℕ) → soundOf r (length b) ≡ true → Shaped r → leftOver r ≤ n → scheduleFrom n b r ≡ scheduleOf b r
+schedule-enough b r zero s h l = elim (standing r b s) [
+  | stops z ↦ rw (schedule-stops (leftOver r) b r z, schedule-stops zero b r z)
+  | goes-on t op next w ↦ absurd (omega (arith, behind r b t op next s h w .fewer))
+]
+schedule-enough b r (suc n) s h l = elim (standing r b s) [
+  | stops z ↦ rw (schedule-stops (leftOver r) b r z, schedule-stops (suc n) b r z)
+  | goes-on t op next w ↦
+      let k = behind r b t op next s h w in
+      let f : leftOver r ≡ suc (leftOver (movedOf r t next)) = omega (arith, k .fewer) in
+      rw (
+        f,
+        schedule-goes n b r t op next w,
+        schedule-goes (leftOver (movedOf r t next)) b r t op next w,
+        schedule-enough b (movedOf r t next) n (k .sound) (moved-shaped r t next h) (omega arith),
+      )
+]
+
+short : (n : ℕ) (b : List ℕ) (r : Run) → length (scheduleFrom n b r) ≤ n
+unfolding scheduleFrom
+short zero b r = omega arith
+short (suc n) b r = elim (ℕ-discrete (readyOf r b .word) 0) [
+  | yes z ↦ rw (eq-eqb (readyOf r b .word) 0 z) (omega arith)
+  | no z ↦ rw (ne-eqb (readyOf r b .word) 0 z) (omega (arith, short n b (behindOf r (nextTask b r) (nextOf r b (nextTask b r)))))
+]
+
+pub schedule-short : (b : List ℕ) (r : Run) → length (scheduleOf b r) ≤ leftOver r
+schedule-short b r = short (leftOver r) b r
+
+-- each step of a list is taken where it stands: its number is 0
+unfoldable pub AllTaken : List ℕ → Play → List ℕ → Type 0
+AllTaken b x [] = Unit {0}
+AllTaken b x (t ∷ ts) = (stepOf (x .run) b (x .memory) t .answer .number ≡ 0) × AllTaken b (steppedBy b x t) ts
+
+-- the step of the next task is the play's own
+record StepTaken (b : List ℕ) (x : Play) (t next : ℕ) : Type 0 where
+  pub number : stepOf (x .run) b (x .memory) t .answer .number ≡ 0
+  pub run : movedOf (x .run) t next ≡ steppedBy b x t .run
+  pub same : onward b x ≡ steppedBy b x t
+  pub playing : Playing b (steppedBy b x t)
+
+step-taken : (b : List ℕ) (x : Play) → Playing b x → (t : ℕ) (op : Op) (next : ℕ) → IsNext (x .run) b t op next → StepTaken b x t next
+unfolding onward onNext
+step-taken b x w t op next n =
+    let e = step-open b x w t op next n in
+    let s : onward b x ≡ steppedBy b x t = rw (n .first) in
+    record { number = rw e; run = rw (e, steppedBy); same = s; playing = rw s at (goes-onward b x w (n .goes) .playing) }
+
+finishes : (n : ℕ) (b : List ℕ) (x : Play) → Playing b x → playedBy b x (scheduleFrom n b (x .run)) ≡ playedOf n b x
+unfolding scheduleFrom playedBy playedOf
+finishes zero b x w = refl
+finishes (suc n) b x w = elim (standing (x .run) b (w .sound)) [
+  | stops z ↦ rw (eq-eqb (readyOf (x .run) b .word) 0 z)
+  | goes-on t op next k ↦
+      let s = step-taken b x w t op next k in
+      rw (schedule-goes n b (x .run) t op next k, ne-eqb (readyOf (x .run) b .word) 0 (k .goes), s .same, s .run) (finishes n b (steppedBy b x t) (s .playing))
+]
+
+takes : (n : ℕ) (b : List ℕ) (x : Play) → Playing b x → AllTaken b x (scheduleFrom n b (x .run))
+unfolding scheduleFrom AllTaken
+takes zero b x w = tt
+takes (suc n) b x w = elim (standing (x .run) b (w .sound)) [
+  | stops z ↦ rw (eq-eqb (readyOf (x .run) b .word) 0 z) tt
+  | goes-on t op next k ↦
+      let s = step-taken b x w t op next k in
+      rw (schedule-goes n b (x .run) t op next k, s .run) (s .number, takes n b (steppedBy b x t) (s .playing))
+]
+
+module _ (b : List ℕ) (x : Play) (w : Playing b x) where
+  pub schedule-finish : playedBy b x (scheduleOf b (x .run)) ≡ finishOf b x
+  schedule-finish = finishes (leftOver (x .run)) b x w
+
+  pub schedule-taken : AllTaken b x (scheduleOf b (x .run))
+  schedule-taken = takes (leftOver (x .run)) b x w
+
+  pub schedule-ends : readyOf (playedBy b x (scheduleOf b (x .run)) .run) b .word ≡ 0
+  schedule-ends = rw schedule-finish (finish-ends b x w)

@@ -1,0 +1,131 @@
+-- The recording of a text that nothing stopped is that of a whole run: no section is turned away.
+use mathlib.Core.Path.{_≡_, refl, ap, _∙_, sym}
+use mathlib.Core.List.{List, [], _++_}
+use Prim.Native.Nat.{ℕ, zero, suc, _+_, _*_, _-_, _≤_}
+use native.Mathlib.Numerals.{add-one}
+use native.Mathlib.Omega.{arith}
+use borrow.Author.Tests.{eq-eqb, eqb-true, eqb-false}
+use lib.Dec.{eqb}
+use lib.ListN.{length, take, replicate, length-append, length-replicate}
+use Rattle.codec.specs.Laws.Decide.{passes, fails, split}
+use Rattle.codec.specs.Encode.{head}
+use Rattle.codec.specs.Laws.Encode.{head-length, section-length}
+use Rattle.codec.specs.Head.{headLength}
+use Rattle.reader.specs.Range.{AllUnder}
+use Rattle.recorder.specs.OpenOf.{openNumber, opened, openOf}
+use Rattle.recorder.specs.Laws.OpenCode.{open-facts}
+use Rattle.recorder.specs.WholeRun.{Box, calledAll, packed as packedWhole}
+use Rattle.fidelity.specs.Box.{Opening, openedBy, Asked, firstBox, lastBox, recordedFrom}
+use Rattle.fidelity.specs.Laws.BoxMatches.{sections-accepted}
+use Rattle.fidelity.specs.Laws.Packed.{section-wrote}
+use Rattle.fidelity.specs.Laws.Theorem.{acceptance}
+use Rattle.codec.specs.Laws.Store.{store-front}
+use Rattle.lines.specs.Lines.{Line}
+use Rattle.script.specs.Packed.{packed}
+use Rattle.script.specs.RecordOf.{longestHead, begun, finished, opening, withOpening}
+use Rattle.script.specs.Laws.Room.{opening-facts}
+use Rattle.script.specs.Session.{Session, most, fedAll}
+use Rattle.programs.specs.Laws.Numbered.{Numbered}
+use Rattle.programs.specs.WholeRecording.{outsOf, WholeRecording}
+use Rattle.programs.specs.Laws.Ran.{sumLogs, sum-none, Ran, ran-all}
+
+sum-suc : (logs : ℕ → List ℕ) (t : ℕ) → sumLogs logs (suc t) ≡ sumLogs logs t + length (logs t)
+unfolding sumLogs
+sum-suc logs t = refl
+
+sum-zero : (logs : ℕ → List ℕ) → sumLogs logs 0 ≡ 0
+unfolding sumLogs
+sum-zero logs = refl
+
+sum-rises : (logs : ℕ → List ℕ) (t d : ℕ) → sumLogs logs t ≤ sumLogs logs (t + d)
+unfolding sumLogs
+sum-rises logs t zero = let e : t + 0 ≡ t = omega arith in rw e (omega arith)
+sum-rises logs t (suc d) = let e : t + suc d ≡ suc (t + d) = omega arith in rw e (omega (arith, sum-rises logs t d))
+
+sum-next : (logs : ℕ → List ℕ) (t k : ℕ) → sumLogs logs t + length (logs t) ≤ sumLogs logs (t + suc k)
+unfolding sumLogs
+sum-next logs t k = let e : t + suc k ≡ suc t + k = omega arith in rw e (sum-rises logs (suc t) k)
+
+module _ (o : Opening) (z : openedBy o .answer .number ≡ 0) (asked : List Asked) (head : ℕ) (room : head + 12 * o .tasks + sumLogs (lastBox o asked .logs) (o .tasks) ≤ most) where
+  packed-all : (t k at : ℕ) → t + k ≡ o .tasks → at ≡ head + 12 * t + sumLogs (lastBox o asked .logs) t
+      → packed (lastBox o asked .state) (lastBox o asked .logs) at t k ≡ packedWhole (lastBox o asked .state) (lastBox o asked .logs) (outsOf (lastBox o asked)) t k
+  unfolding packed packedWhole
+  packed-all t zero at h e = refl
+  packed-all t (suc k) at h e =
+      let b = lastBox o asked in
+      let n : sumLogs (b .logs) t + length (b .logs t) ≤ sumLogs (b .logs) (o .tasks) = rw h at (sum-next (b .logs) t k) in
+      let i = sections-accepted o z asked t (omega arith) (replicate (most - at) 0) (rw (length-replicate {A = ℕ} (most - at) 0) (omega (arith, n, room, e))) in
+      let j = sections-accepted o z asked t (omega arith) (outsOf b t) (rw (length-replicate {A = ℕ} (12 + length (b .logs t)) 0) (omega arith)) in
+      let x = section-wrote (b .state) t (b .logs t) (replicate (most - at) 0) i in
+      let y = section-wrote (b .state) t (b .logs t) (outsOf b t) j in
+      let g = packed-all (suc t) k (at + (12 + length (b .logs t))) (omega arith) (omega (arith, e, sum-suc (b .logs) t)) in
+      rw (x .1, y .1, x .0, add-one t, g)
+
+  -- as many bytes as the logs have, and a section record for each
+  packed-size : (t k : ℕ) → t + k ≡ o .tasks → length (packedWhole (lastBox o asked .state) (lastBox o asked .logs) (outsOf (lastBox o asked)) t k) + sumLogs (lastBox o asked .logs) t
+      ≡ 12 * k + sumLogs (lastBox o asked .logs) (o .tasks)
+  unfolding packedWhole
+  packed-size t zero h = let e : t ≡ o .tasks = omega arith in rw e (omega arith)
+  packed-size t (suc k) h =
+      let b = lastBox o asked in
+      let j = sections-accepted o z asked t (omega arith) (outsOf b t) (rw (length-replicate {A = ℕ} (12 + length (b .logs t)) 0) (omega arith)) in
+      let y = section-wrote (b .state) t (b .logs t) (outsOf b t) j in
+      rw (length-append, y .1, length-append, section-length) (omega (arith, packed-size (suc t) k (omega arith), sum-suc (b .logs) t))
+
+box-none : (b : Box) → b ≡ calledAll b []
+unfolding calledAll
+box-none b = refl
+
+-- an opening writes as many bytes as it says
+head-size : (tasks objects : ℕ) (owners starts memory out : List ℕ) → openOf tasks objects owners starts memory out .answer .number ≡ 0
+    → length (take (openOf tasks objects owners starts memory out .answer .written) (openOf tasks objects owners starts memory out .out)) ≡ openOf tasks objects owners starts memory out .answer .written
+unfolding openOf opened
+head-size tasks objects owners starts memory out z =
+    elim (split (eqb (openNumber tasks objects owners (length starts) (length memory) (length out)) 0)) [
+      | fails p ↦ absurd (eqb-false _ _ p (rw p at z))
+      | passes p ↦
+          let f = open-facts tasks objects owners (length starts) (length memory) (length out) (eqb-true _ _ p) in
+          let e : length (head tasks owners starts) ≡ headLength objects = head-length tasks owners starts (omega (arith, f .owner-each, f .start-each)) ∙ ap headLength (f .owner-each) in
+          rw (p, store-front out _ _ e (f .room), e)
+    ]
+
+module _ (tasks line : ℕ) (owners starts : List ℕ) (ls : List Line) (under : AllUnder 4294967296 starts) (z : opening tasks owners starts .answer .number ≡ 0) where
+  abbrev opened-by : Opening
+  opened-by = record { tasks = tasks; objects = length owners; owners = owners; starts = starts; memory = replicate (length owners) 0; out = replicate longestHead 0; fits = under }
+
+  abbrev first : Session
+  first = begun (opening tasks owners starts .answer .state) (opening tasks owners starts .memory) (opening tasks owners starts .answer .written) tasks
+
+  first-ran : Ran opened-by z (opening tasks owners starts .answer .written + 12 * tasks) [] first
+  unfolding recordedFrom
+  first-ran =
+      let f = opening-facts tasks (length owners) owners starts (replicate (length owners) 0) (replicate longestHead 0) z in
+      record {
+        asked = [];
+        box = box-none (firstBox opened-by);
+        total = omega (arith, sum-none tasks);
+        fits = omega (arith, f .0 .few-tasks, f .0 .few-objects, f .1);
+        asks = λ _. refl;
+        counted = λ _. refl;
+      }
+
+  pub whole-recording : Numbered ls → fedAll first ls .line ≡ 0
+      → WholeRecording (withOpening tasks line (opening tasks owners starts) ls .bytes) (withOpening tasks line (opening tasks owners starts) ls .memory) ls
+  unfolding withOpening finished
+  whole-recording k h =
+      let w = opening tasks owners starts .answer .written in
+      let r = ran-all opened-by z (w + 12 * tasks) [] first ls k first-ran in
+      let b = lastBox opened-by (r .asked) in
+      let q : sumLogs (b .logs) tasks ≡ sumLogs (fedAll first ls .box .logs) tasks = ap (λ (x : Box). sumLogs (x .logs) tasks) (sym (r .box)) in
+      let n = head-size tasks (length owners) owners starts (replicate (length owners) 0) (replicate longestHead 0) z in
+      let g = packed-all opened-by z (r .asked) w (omega (arith, r .total, r .fits, q)) 0 tasks w (omega arith) (omega (arith, sum-zero (b .logs))) in
+      rw (eq-eqb _ _ z, eq-eqb _ _ h, r .box, n) (record {
+        opening = opened-by;
+        asked = r .asked;
+        is = ap (λ (x : List ℕ). take w (opening tasks owners starts .out) ++ x) g;
+        asks = r .asks h;
+        counted = r .counted h;
+        left = refl;
+        short = rw length-append (omega (arith, n, ap length g, packed-size opened-by z (r .asked) w (omega (arith, r .total, r .fits, q)) 0 tasks (omega arith), sum-zero (b .logs), r .total, r .fits, q));
+        accepted = λ lent each. acceptance opened-by (r .asked) (outsOf b) lent z (λ t l. rw (length-replicate {A = ℕ} (12 + length (b .logs t)) 0) (omega arith)) each;
+      })

@@ -1,0 +1,61 @@
+-- Bodies that read, each behind a section record that names its accesses and bytes, and all behind a head, read as the recording
+-- of those accesses: what the section writer's pieces make when they are joined.
+use mathlib.Core.Path.{_≡_, refl}
+use mathlib.Core.List.{List, [], _∷_, _++_}
+use Prim.Native.Nat.{ℕ, suc, _+_, _<_}
+use native.Mathlib.Omega.{arith}
+use lib.ListN.{length}
+use borrow.Author.Tests.{eq-eqb}
+use Rattle.codec.specs.Encode.{head, section}
+use Rattle.codec.specs.Field.{Bytes}
+use Rattle.reader.specs.declared.Limits.{Limits}
+use Rattle.reader.specs.Reading.{read, stop}
+use Rattle.reader.specs.Recording.{Entry, Recording}
+use Rattle.reader.specs.Bytes.{sectionsBytes, bytesOf}
+use Rattle.reader.specs.Range.{BodiesIn, HeadIn}
+use Rattle.reader.specs.Body.{bodyEntries, walkOf, judged, tally}
+use Rattle.reader.specs.Laws.BodyStrict.{body-strict}
+use Rattle.reader.specs.Parse.{parse}
+use Rattle.reader.specs.Laws.Roundtrip.{parse-back, spansOf}
+
+pub reads-walk : (m : Limits) (at : ℕ) (b : List ℕ) (es : List Entry) (wrong : ℕ) → bodyEntries m at b ≡ read es → walkOf m at b (length es) wrong ≡ stop 0 0
+unfolding walkOf judged tally
+reads-walk m at b es wrong q = let o : 0 + length es ≡ length es = omega arith in rw (q, o, eq-eqb (length es) (length es) refl)
+
+pub record LogRead (m : Limits) (log : List ℕ) (es : List Entry) : Type 0 where
+  pub bytes : Bytes log
+  pub reads : bodyEntries m 0 log ≡ read es
+  pub count : length es < 65536
+  pub size : length log < 4294967296
+
+-- logs that read as the bodies of the tasks from t upward
+abbrev pub LogsRead : ℕ → ℕ → ℕ → List (List ℕ) → List (List Entry) → Type 0
+LogsRead tasks objects t [] [] = Unit {0}
+LogsRead tasks objects t [] (es ∷ bodies) = ⊥
+LogsRead tasks objects t (log ∷ logs) [] = ⊥
+LogsRead tasks objects t (log ∷ logs) (es ∷ bodies) = LogRead (record { tasks = tasks; objects = objects; own = t }) log es × LogsRead tasks objects (suc t) logs bodies
+
+-- the section records and logs of the tasks from t upward
+unfoldable pub joined : ℕ → List (List ℕ) → List (List Entry) → List ℕ
+joined t [] bodies = []
+joined t (log ∷ logs) [] = []
+joined t (log ∷ logs) (es ∷ bodies) = section t (length es) (length log) ++ log ++ joined (suc t) logs bodies
+
+joined-bytes : (tasks objects t : ℕ) (logs : List (List ℕ)) (bodies : List (List Entry)) → LogsRead tasks objects t logs bodies
+    → (joined t logs bodies ≡ sectionsBytes t bodies) × BodiesIn tasks objects t bodies
+unfolding joined sectionsBytes
+joined-bytes tasks objects t [] [] w = (refl, tt)
+joined-bytes tasks objects t [] (es ∷ bodies) w = absurd w
+joined-bytes tasks objects t (log ∷ logs) [] w = absurd w
+joined-bytes tasks objects t (log ∷ logs) (es ∷ bodies) w =
+    let s = body-strict (record { tasks = tasks; objects = objects; own = t }) 0 log es (w .0 .bytes) (w .0 .reads) in
+    let r = joined-bytes tasks objects (suc t) logs bodies (w .1) in
+    (rw (r .0, s .0), (record { entries = s .1; count = w .0 .count; size = rw (s .0) at (w .0 .size) }, r .1))
+
+pub parse-joined : (r : Recording) (logs : List (List ℕ)) → HeadIn (r .tasks) (r .owners) (r .values) → length (r .bodies) ≡ r .tasks
+    → LogsRead (r .tasks) (length (r .owners)) 0 logs (r .bodies)
+    → parse (head (r .tasks) (r .owners) (r .values) ++ joined 0 logs (r .bodies)) ≡ read (record { recording = r; spans = spansOf r })
+unfolding bytesOf
+parse-joined r logs i l w =
+    let j = joined-bytes (r .tasks) (length (r .owners)) 0 logs (r .bodies) w in
+    rw (j .0) (parse-back r (record { head = i; body-each = l; bodies = j .1 }))

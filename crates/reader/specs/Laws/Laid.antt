@@ -1,0 +1,105 @@
+-- What the walk's answer and the head's entries tell whoever stands above the reader: the layout by what the bytes mean,
+-- and the starting values as they stand in the head.
+use mathlib.Core.Path.{_≡_, refl, ap}
+use mathlib.Core.Bool.{_&&_}
+use mathlib.Core.List.{List, [], _∷_}
+use Prim.Native.Nat.{ℕ, zero, suc, _+_, _-_, _≤_, _<_}
+use native.Mathlib.Omega.{arith}
+use lib.ListN.{length, getD, drop, List·getD-append}
+use lib.Seq.{sets-eq, getD-drop, drop-drop}
+use Rattle.codec.specs.Kind.{headKind, lengthOf}
+use Rattle.codec.specs.declared.Record.{Record}
+use Rattle.codec.specs.declared.Record.the-variants.{Head, Section, Ordering, Access, Refused}
+use Rattle.codec.specs.Laws.Decide.{passes, fails, split}
+use Rattle.codec.specs.Decode.{recordOf}
+use Rattle.codec.specs.Field.{field2, field4}
+use Rattle.codec.specs.Head.{headLength, headStep, valueBehind}
+use Rattle.codec.specs.Number.{short, range}
+use Rattle.reader.specs.declared.Checked.{Checked}
+use Rattle.reader.specs.declared.survey.Layout.{Layout}
+use Rattle.reader.specs.Reading.{Reading, refused, read, stop, mapped}
+use Rattle.reader.specs.Section.{TaskBody}
+use Rattle.reader.specs.Parse.{HeadFields, Parsed, parsedOf, ownersOf, valuesOf, allBelow, sizesOk, onHead, headAt, sectionsAfter, parse}
+use Rattle.reader.specs.Laws.HeadCode.{Headed, head-facts, owners-count}
+use Rattle.reader.specs.Calls.{noSpan}
+use Rattle.reader.specs.Laws.Standing.{Standing, parse-stands}
+use Rattle.reader.specs.Layout.{blankSpans, refusedLayout, layoutOf}
+
+-- the layout of bytes that are read
+pub record Laid (p : Parsed) (l : Layout) : Type 0 where
+  pub number : l .number ≡ 0
+  pub tasks : l .tasks ≡ p .recording .tasks
+  pub objects : l .objects ≡ length (p .recording .owners)
+  pub span : (t : ℕ) → t < p .recording .tasks → getD (l .spans) t noSpan ≡ getD (p .spans) t noSpan
+
+pub laid-read : (b : List ℕ) (p : Parsed) → parse b ≡ read p → Laid p (layoutOf (parse b))
+unfolding layoutOf
+laid-read b p e =
+    let w : Standing b p = parse-stands b p e in
+    let o = w .one-each in
+    let f = w .few-tasks in
+    rw e (record {
+      number = refl;
+      tasks = refl;
+      objects = refl;
+      span = λ t h. rw (sets-eq (p .spans) blankSpans 0 (omega arith), List·getD-append (p .spans) (drop (0 + length (p .spans)) blankSpans) noSpan t (omega arith));
+    })
+
+-- the layout of bytes that are refused
+pub laid-refused : (c : Checked) → (layoutOf (refused c) .number ≡ c .number) × (layoutOf (refused c) .offset ≡ c .offset)
+unfolding layoutOf refusedLayout
+laid-refused c = (refl, refl)
+
+-- the starting values: four bytes each, behind the owner's
+field2-drop : (n i : ℕ) (b : List ℕ) → field2 (drop n b) i ≡ field2 b (n + i)
+unfolding field2
+field2-drop n i b = let e : n + (i + 1) ≡ n + i + 1 = omega arith in rw (getD-drop n b i 0, getD-drop n b (i + 1) 0, e)
+
+field4-drop : (n i : ℕ) (b : List ℕ) → field4 (drop n b) i ≡ field4 b (n + i)
+unfolding field4
+field4-drop n i b = let e : n + (i + 2) ≡ n + i + 2 = omega arith in rw (field2-drop n i b, field2-drop n (i + 2) b, e)
+
+pub values-next : (n i place : ℕ) (b : List ℕ) → i < n → valuesOf (n - i) (drop place b) ≡ field4 b (place + valueBehind) ∷ valuesOf (n - (i + 1)) (drop (place + headStep) b)
+unfolding valuesOf
+values-next n i place b h = let e : n - i ≡ suc (n - (i + 1)) = omega arith in rw (e, field4-drop, drop-drop)
+
+pub values-end : (n i : ℕ) (b : List ℕ) → n ≤ i → valuesOf (n - i) b ≡ []
+unfolding valuesOf
+values-end n i b h = let e : n - i ≡ 0 = omega arith in rw e
+
+pub values-count : (n : ℕ) (b : List ℕ) → length (valuesOf n b) ≡ n
+unfolding valuesOf
+values-count zero b = refl
+values-count (suc n) b = ap suc (values-count n (drop headStep b))
+
+-- the values of bytes that are read are those of the head, which is all there
+pub record Valued (b : List ℕ) (p : Parsed) : Type 0 where
+  pub values : p .recording .values ≡ valuesOf (length (p .recording .owners)) (drop (lengthOf headKind) b)
+  pub within : headLength (length (p .recording .owners)) ≤ length b
+
+on-head-values : (b : List ℕ) (r : Record) (h : HeadFields) → onHead b r ≡ read h → h .values ≡ valuesOf (length (h .owners)) (drop (lengthOf headKind) b)
+unfolding onHead
+on-head-values b (Head t n) h p = elim (split (sizesOk t n && allBelow t (ownersOf n (drop (lengthOf headKind) b)))) [
+  | passes q ↦
+      let g : read (record { tasks = t; owners = ownersOf n (drop (lengthOf headKind) b); values = valuesOf n (drop (lengthOf headKind) b) }) ≡ read h = rw q at p in
+      let y : record { tasks = t; owners = ownersOf n (drop (lengthOf headKind) b); values = valuesOf n (drop (lengthOf headKind) b) } ≡ h = cc in
+      rw (← y, owners-count n (drop (lengthOf headKind) b))
+  | fails q ↦ absurd (let g : refused (stop range 0) ≡ read h = rw q at p in let z : _≡_ {A = ℕ} 0 1 = cc in omega arith)
+]
+on-head-values b (Section t n s) h p = absurd (let z : _≡_ {A = ℕ} 0 1 = cc in omega arith)
+on-head-values b (Ordering q) h p = absurd (let z : _≡_ {A = ℕ} 0 1 = cc in omega arith)
+on-head-values b (Access o) h p = absurd (let z : _≡_ {A = ℕ} 0 1 = cc in omega arith)
+on-head-values b (Refused n) h p = absurd (let z : _≡_ {A = ℕ} 0 1 = cc in omega arith)
+
+valued : (b : List ℕ) (h : HeadFields) (p : Parsed) → Headed b h → h .values ≡ valuesOf (length (h .owners)) (drop (lengthOf headKind) b) → (r : Reading (List TaskBody))
+    → mapped (parsedOf h) r ≡ read p → Valued b p
+valued b h p w v (refused c) e = absurd (let z : _≡_ {A = ℕ} 0 1 = cc in omega arith)
+valued b h p w v (read l) e = let y : parsedOf h l ≡ p = cc in rw (← y) (record { values = v; within = w .within })
+
+pub parse-valued : (b : List ℕ) (p : Parsed) → parse b ≡ read p → Valued b p
+unfolding parse headAt
+parse-valued b p e = go (headAt b) refl
+  where
+    go : (x : Reading HeadFields) → headAt b ≡ x → Valued b p
+    go (refused c) q = absurd (let y : refused c ≡ read p = rw q at e in let z : _≡_ {A = ℕ} 0 1 = cc in omega arith)
+    go (read h) q = valued b h p (head-facts b h q) (on-head-values b (recordOf short b) h q) (sectionsAfter h b) (rw q at e)

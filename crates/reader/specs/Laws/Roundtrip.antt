@@ -1,0 +1,185 @@
+-- Read-back: what a recording's bytes mean is that recording.
+use mathlib.Core.Path.{_≡_, refl, ap, ap₂, _∙_, sym}
+use mathlib.Core.Bool.{true}
+use mathlib.Core.List.{List, [], _∷_, _++_, append-assoc, map}
+use Prim.Native.Nat.{ℕ, suc, _+_, _-_, _≤_, _<_}
+use native.Mathlib.Omega.{arith}
+use lib.ListN.{length, drop, length-append}
+use lib.Seq.{take-at, drop-at, drop-drop}
+use borrow.Author.Tests.{lt-ltb, eq-eqb, ne-eqb}
+use Rattle.codec.specs.declared.Position.{Position}
+use Rattle.codec.specs.declared.Op.{Op}
+use Rattle.codec.specs.Encode.{startTwo, cell, cells, head, section, ordering, access}
+use Rattle.codec.specs.Laws.Encode.{startTwo-length, ordering-length, access-long, section-length, cells-length, head-length}
+use Rattle.codec.specs.Field.{le2, le4, field2, field4}
+use Rattle.codec.specs.Laws.Field.{field4-le4}
+use Rattle.codec.specs.Kind.{headKind}
+use Rattle.codec.specs.Head.{headLength}
+use Rattle.codec.specs.Limit.{maxTasks, maxObjects}
+use Rattle.codec.specs.Laws.Limit.{within-test}
+use Rattle.codec.specs.Number.{short, inBody}
+use Rattle.codec.specs.Laws.Roundtrip.{FitsOp, read-ordering, read-access, read-section, read-head}
+use Rattle.reader.specs.declared.Checked.{Checked}
+use Rattle.reader.specs.declared.Limits.{Limits}
+use Rattle.reader.specs.declared.Span.{Span}
+use Rattle.reader.specs.Reading.{read, stop}
+use Rattle.reader.specs.Recording.{Entry, Recording}
+use Rattle.reader.specs.Bytes.{orderingsBytes, entryBytes, entryLength, bodyBytes, sectionsBytes, bytesOf}
+use Rattle.reader.specs.Laws.Bytes.{entry-length, entry-some}
+use Rattle.reader.specs.Range.{PositionIn, OpIn, OrderingsIn, EntryIn, EntriesIn, BodyIn, BodiesIn, AllUnder, HeadIn, InRange}
+use Rattle.reader.specs.Entry.{orderingOk, accessOk, onRecord, accessOf, entryOf}
+use Rattle.reader.specs.Laws.Entry.{entry-ordering, entry-step}
+use Rattle.reader.specs.Body.{bodyEntries}
+use Rattle.reader.specs.Laws.Body.{body-end, body-step}
+use Rattle.reader.specs.Section.{TaskBody, spanOf, bodyStart, taken, sectionBody, onSection, sectionAt, sectionsOf}
+use Rattle.reader.specs.Parse.{ownersOf, valuesOf, allBelow, sizesOk, onHead, headAt, sectionsAfter, parse}
+
+-- T and N leave room in their fields
+pub record Small (m : Limits) : Type 0 where
+  pub tasks : m .tasks ≤ 16
+  pub objects : m .objects ≤ 256
+
+position-ok : (m : Limits) (p : Position) → PositionIn m p → orderingOk m p ≡ true
+unfolding orderingOk
+position-ok m p i = rw (lt-ltb (p .task) (m .tasks) (i .below), ne-eqb (p .task) (m .own) (i .other), lt-ltb 0 (p .number) (i .some))
+
+op-ok : (m : Limits) (o : Op) → OpIn m o → accessOk m o ≡ true
+unfolding accessOk
+op-ok m o i = lt-ltb (o .object) (m .objects) (i .below)
+
+op-fits : (m : Limits) (o : Op) → Small m → OpIn m o → FitsOp o
+op-fits m o s i = record { access = i .access; object = omega (arith, s .objects, i .below); value = i .fits; none = i .none }
+
+module _ (m : Limits) (s : Small m) where
+  -- an access with its orderings, whatever follows
+  orderings-back : (ended : Checked) (at : ℕ) (ps : List Position) (o : Op) (r : List ℕ) → OrderingsIn m ps → OpIn m o
+      → entryOf m ended at (orderingsBytes ps ++ (access o ++ r)) ≡ read (record { orderings = ps; op = o })
+  unfolding orderingsBytes onRecord accessOf
+  orderings-back ended at [] o r i j =
+      entry-step m ended at (access o ++ r) (omega (arith, length-append (access o) r, access-long o))
+      ∙ rw (read-access inBody o r (op-fits m o s j), op-ok m o j)
+  orderings-back ended at (p ∷ ps) o r i j =
+      let l : List ℕ = orderingsBytes ps ++ (access o ++ r) in
+      rw append-assoc (entry-ordering m ended at (ordering p ++ l) p (omega (arith, length-append (ordering p) l, ordering-length p))
+      (read-ordering inBody p l (record { task = omega (arith, i .0 .below, s .tasks); number = i .0 .fits })) (position-ok m p (i .0))
+      ∙ rw (drop-at (ordering p) l 8 (ordering-length p), orderings-back _ (at + 8) ps o r (i .1) j))
+
+  pub entry-back : (ended : Checked) (at : ℕ) (e : Entry) (r : List ℕ) → EntryIn m e → entryOf m ended at (entryBytes e ++ r) ≡ read e
+  unfolding entryBytes
+  entry-back ended at e r i = rw append-assoc (orderings-back ended at (e .orderings) (e .op) r (i .orderings) (i .op))
+
+  pub body-back : (at : ℕ) (es : List Entry) → EntriesIn m es → bodyEntries m at (bodyBytes es) ≡ read es
+  unfolding bodyBytes
+  body-back at [] i = body-end m at [] refl
+  body-back at (e ∷ es) i =
+      body-step m at (entryBytes e ++ bodyBytes es) (omega (arith, length-append (entryBytes e) (bodyBytes es), entry-some e))
+      ∙ rw (entry-back (stop inBody at) at e (bodyBytes es) (i .0), drop-at (entryBytes e) (bodyBytes es) (entryLength e) (entry-length e (i .0 .op .access)), body-back (at + entryLength e) es (i .1))
+
+-- where the bodies of the sections stand, the first section at a place
+unfoldable pub placed : ℕ → List (List Entry) → List TaskBody
+placed at [] = []
+placed at (es ∷ bodies) =
+    record { entries = es; start = bodyStart at; stop = bodyStart at + length (bodyBytes es) } ∷ placed (bodyStart at + length (bodyBytes es)) bodies
+
+section-back : (m : Limits) → Small m → m .own < 16 → (at : ℕ) (es : List Entry) (r : List ℕ) → BodyIn m es
+    → sectionAt m at (section (m .own) (length es) (length (bodyBytes es)) ++ (bodyBytes es ++ r))
+    ≡ read (record { entries = es; start = bodyStart at; stop = bodyStart at + length (bodyBytes es) })
+unfolding sectionAt onSection sectionBody taken
+section-back m s o at es r i =
+    let L : ℕ = length (bodyBytes es) in
+    let h : List ℕ = section (m .own) (length es) L in
+    rw (
+      read-section short (m .own) (length es) L (bodyBytes es ++ r) (omega arith) (i .count) (i .size) (omega (arith, length-append (bodyBytes es) r)),
+      eq-eqb (m .own) (m .own) refl,
+      drop-at h (bodyBytes es ++ r) 12 (section-length (m .own) (length es) L),
+      take-at (bodyBytes es) r L refl,
+      body-back m s (bodyStart at) es (i .entries),
+      eq-eqb (length es) (length es) refl,
+    )
+
+sections-back : (tasks objects : ℕ) → tasks ≤ 16 → objects ≤ 256 → (t at : ℕ) (bodies : List (List Entry)) → t + length bodies ≤ 16
+    → BodiesIn tasks objects t bodies → sectionsOf tasks objects (length bodies) t at (sectionsBytes t bodies) ≡ read (placed at bodies)
+unfolding sectionsOf sectionsBytes placed
+sections-back tasks objects ht ho t at [] h i = refl
+sections-back tasks objects ht ho t at (es ∷ bodies) h i =
+    let m : Limits = record { tasks = tasks; objects = objects; own = t } in
+    let L : ℕ = length (bodyBytes es) in
+    let r : List ℕ = sectionsBytes (suc t) bodies in
+    let e : bodyStart at + L - at ≡ 12 + L = omega arith in
+    let d : drop (12 + L) (section t (length es) L ++ (bodyBytes es ++ r)) ≡ r =
+    sym (drop-drop L 12 (section t (length es) L ++ (bodyBytes es ++ r)))
+    ∙ rw (drop-at (section t (length es) L) (bodyBytes es ++ r) 12 (section-length t (length es) L), drop-at (bodyBytes es) r L refl) in
+    rw (
+      append-assoc,
+      section-back m (record { tasks = ht; objects = ho }) (omega arith) at es r (i .0),
+      e,
+      d,
+      sections-back tasks objects ht ho (suc t) (bodyStart at + L) bodies (omega arith) (i .1),
+    )
+
+owners-back : (owners values : List ℕ) (r : List ℕ) → length values ≡ length owners → ownersOf (length owners) (cells owners values ++ r) ≡ owners
+unfolding ownersOf cells cell le2 le4
+owners-back [] values r h = refl
+owners-back (o ∷ owners) [] r h = absurd (omega arith)
+owners-back (o ∷ owners) (v ∷ values) r h = ap (λ (l : List ℕ). o ∷ l) (owners-back owners values r (omega arith))
+
+values-back : (owners values : List ℕ) (r : List ℕ) → length values ≡ length owners → AllUnder 4294967296 values → valuesOf (length owners) (cells owners values ++ r) ≡ values
+unfolding valuesOf cells cell le2 le4 field2 field4
+values-back [] [] r h i = refl
+values-back [] (v ∷ values) r h i = absurd (omega arith)
+values-back (o ∷ owners) [] r h i = absurd (omega arith)
+values-back (o ∷ owners) (v ∷ values) r h i =
+    ap₂ (λ (x : ℕ) (l : List ℕ). x ∷ l) (field4-le4 v (i .0)) (values-back owners values r (omega arith) (i .1))
+
+under-below : (n : ℕ) (l : List ℕ) → AllUnder n l → allBelow n l ≡ true
+unfolding allBelow
+under-below n [] i = refl
+under-below n (x ∷ l) i = rw (lt-ltb x n (i .0)) (under-below n l (i .1))
+
+sizes-ok : (t n : ℕ) → 1 ≤ t → t ≤ 16 → 1 ≤ n → n ≤ 256 → sizesOk t n ≡ true
+unfolding sizesOk
+sizes-ok t n a b c d = rw (within-test 1 maxTasks t a b, within-test 1 maxObjects n c d)
+
+head-back : (r : Recording) (rest : List ℕ) → HeadIn (r .tasks) (r .owners) (r .values)
+    → headAt (head (r .tasks) (r .owners) (r .values) ++ rest) ≡ read (record { tasks = r .tasks; owners = r .owners; values = r .values })
+unfolding headAt onHead head
+head-back r rest i =
+    let n : ℕ = length (r .owners) in
+    let s : List ℕ = startTwo (headLength n) headKind (r .tasks) n in
+    let c : List ℕ = cells (r .owners) (r .values) in
+    let few = i .few-tasks in
+    rw (
+      append-assoc,
+      read-head short (r .tasks) n (c ++ rest) (omega arith) (i .few-objects) (omega (arith, length-append c rest, cells-length (r .owners) (r .values) (i .value-each))),
+      drop-at s (c ++ rest) 8 (startTwo-length _ _ _ _),
+      owners-back (r .owners) (r .values) rest (i .value-each),
+      values-back (r .owners) (r .values) rest (i .value-each) (i .values-in),
+      sizes-ok (r .tasks) n (i .some-tasks) (i .few-tasks) (i .some-objects) (i .few-objects),
+      under-below (r .tasks) (r .owners) (i .owners-in),
+    )
+
+-- the bodies' places in a recording's bytes
+unfoldable pub spansOf : Recording → List Span
+spansOf r = map spanOf (placed (headLength (length (r .owners))) (r .bodies))
+
+entries-placed : (at : ℕ) (bodies : List (List Entry)) → map (λ s. s .entries) (placed at bodies) ≡ bodies
+unfolding placed
+entries-placed at [] = refl
+entries-placed at (es ∷ bodies) = ap (λ (l : List (List Entry)). es ∷ l) (entries-placed (bodyStart at + length (bodyBytes es)) bodies)
+
+-- THE READ-BACK LAW
+pub parse-back : (r : Recording) → InRange r → parse (bytesOf r) ≡ read (record { recording = r; spans = spansOf r })
+unfolding parse sectionsAfter bytesOf spansOf
+parse-back r i =
+    let n : ℕ = length (r .owners) in
+    let h : List ℕ = head (r .tasks) (r .owners) (r .values) in
+    let o = i .body-each in
+    let few = i .head .few-tasks in
+    let q : sectionsOf (r .tasks) n (r .tasks) 0 (headLength n) (sectionsBytes 0 (r .bodies)) ≡ read (placed (headLength n) (r .bodies)) =
+    rw o at (sections-back (r .tasks) n few (i .head .few-objects) 0 (headLength n) (r .bodies) (omega arith) (i .bodies)) in
+    rw (
+      head-back r (sectionsBytes 0 (r .bodies)) (i .head),
+      drop-at h (sectionsBytes 0 (r .bodies)) (headLength n) (head-length (r .tasks) (r .owners) (r .values) (i .head .value-each)),
+      q,
+      entries-placed (headLength n) (r .bodies),
+    )

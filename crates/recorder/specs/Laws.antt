@@ -1,0 +1,4 @@
+pub mod Accepted
+pub mod AccessCode
+pub mod Full
+pub mod OpenCode

@@ -1,0 +1,12 @@
+-- Laws of `Dones`.
+use mathlib.Core.Path.{_≡_}
+use mathlib.Core.List.{List}
+use Prim.Native.Nat.{ℕ, _<_}
+use lib.ListN.{getD}
+use Rattle.replayer.specs.declared.TaskRun.{TaskRun}
+use Rattle.replayer.specs.Laws.Each.{each-at}
+use Rattle.replayer.specs.Run.{doneOf}
+use Rattle.replayer.specs.Dones.{donesOf}
+
+pub dones-at : (runs : List TaskRun) (t : ℕ) → t < 16 → getD (donesOf runs) t 0 ≡ doneOf runs t
+dones-at runs t h = each-at (doneOf runs) 16 t 0 h

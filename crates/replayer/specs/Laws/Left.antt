@@ -1,0 +1,93 @@
+-- What is left of a task's body, as the accesses that its bytes read as: all of them at the start, one less after each step of that
+-- task, and unchanged by a step of another. The next entry is the first of them.
+use mathlib.Core.Path.{_≡_, refl, sym, ap, _∙_}
+use mathlib.Core.List.{List, [], _∷_}
+use Prim.Native.Nat.{ℕ, _+_, _<_}
+use native.Mathlib.Omega.{arith}
+use lib.ListN.{length, getD, drop}
+use Rattle.codec.specs.Number.{inBody}
+use Rattle.reader.specs.declared.Limits.{Limits}
+use Rattle.reader.specs.Laws.Bodies.{parse-bodies}
+use Rattle.reader.specs.Body.{bodyEntries}
+use Rattle.reader.specs.Laws.Body.{body-end, body-step}
+use Rattle.reader.specs.Bytes.{entryLength}
+use Rattle.reader.specs.Calls.{noSpan}
+use Rattle.reader.specs.Entry.{entryOf}
+use Rattle.reader.specs.Parse.{Parsed, parse}
+use Rattle.reader.specs.Part.{part}
+use Rattle.reader.specs.Laws.Part.{part-drop}
+use Rattle.reader.specs.Reading.{Reading, refused, read, stop, mapped, andThen}
+use Rattle.reader.specs.Recording.{Entry}
+use Rattle.replayer.specs.declared.TaskRun.{TaskRun}
+use Rattle.replayer.specs.declared.Run.{Run}
+use Rattle.replayer.specs.Run.{taskAt, limitsOf, advanced, movedOf}
+use Rattle.replayer.specs.Next.{entryNext}
+use Rattle.replayer.specs.Laws.Moved.{Shaped, moved-own, moved-other}
+use Rattle.replayer.specs.OpenOf.{startOf, openedRun}
+use Rattle.replayer.specs.Laws.OpenOf.{opened-stands}
+
+-- the bytes from the task's place to its body's end read as these accesses
+abbrev pub LeftOf : Limits → TaskRun → List ℕ → List Entry → Type 0
+LeftOf m x b es = bodyEntries m (x .place) (part (x .place) (x .end) b) ≡ read es
+
+abbrev pub Left : Run → List ℕ → ℕ → List Entry → Type 0
+Left r b t es = LeftOf (limitsOf r t) (taskAt (r .runs) t) b es
+
+-- a body that begins with an entry: the entry is read first, and the rest behind it
+record First (m : Limits) (x : TaskRun) (b : List ℕ) (e : Entry) (es : List Entry) : Type 0 where
+  pub entry : entryOf m (stop inBody (x .place)) (x .place) (part (x .place) (x .end) b) ≡ read e
+  pub rest : LeftOf m (advanced x (x .place + entryLength e)) b es
+
+first-of : (m : Limits) (at : ℕ) (e : Entry) (es : List Entry) (l : List ℕ) (y : Reading Entry)
+    → andThen y (λ f. mapped (λ fs. f ∷ fs) (bodyEntries m (at + entryLength f) (drop (entryLength f) l))) ≡ read (e ∷ es)
+    → (y ≡ read e) × (bodyEntries m (at + entryLength e) (drop (entryLength e) l) ≡ read es)
+first-of m at e es l (refused c) h = absurd (let z : _≡_ {A = ℕ} 0 1 = cc in omega arith)
+first-of m at e es l (read f) h = go (bodyEntries m (at + entryLength f) (drop (entryLength f) l)) refl h
+  where
+    go : (z : Reading (List Entry)) → bodyEntries m (at + entryLength f) (drop (entryLength f) l) ≡ z → mapped (λ fs. f ∷ fs) z ≡ read (e ∷ es)
+        → (read f ≡ read e) × (bodyEntries m (at + entryLength e) (drop (entryLength e) l) ≡ read es)
+    go (refused c) q k = absurd (let z : _≡_ {A = ℕ} 0 1 = cc in omega arith)
+    go (read fs) q k =
+        let a : f ≡ e = cc in
+        let b : fs ≡ es = cc in
+        (ap read a, rw (← a, ← b) q)
+
+left-first : (m : Limits) (x : TaskRun) (b : List ℕ) (e : Entry) (es : List Entry) → LeftOf m x b (e ∷ es) → First m x b e es
+left-first m x b e es h = go (part (x .place) (x .end) b) refl
+  where
+    go : (l : List ℕ) → part (x .place) (x .end) b ≡ l → First m x b e es
+    go [] q = absurd (
+        let y : read [] ≡ read (e ∷ es) = sym (body-end m (x .place) (part (x .place) (x .end) b) q) ∙ h in
+        let z : _≡_ {A = ℕ} 0 1 = cc in
+        omega arith)
+    go (c ∷ l) q =
+        let k : 0 < length (part (x .place) (x .end) b) = rw q (omega arith) in
+        let w = first-of m (x .place) e es (part (x .place) (x .end) b) (entryOf m (stop inBody (x .place)) (x .place) (part (x .place) (x .end) b))
+        (sym (body-step m (x .place) (part (x .place) (x .end) b) k) ∙ h) in
+        record { entry = w .0; rest = rw (part-drop (entryLength e) (x .place) (x .end) b) at (w .1) }
+
+module _ (r : Run) (b : List ℕ) (t : ℕ) where
+  -- the next entry is the first that is left
+  pub left-entry : (e : Entry) (es : List Entry) → Left r b t (e ∷ es) → entryNext r b t ≡ read e
+  unfolding entryNext
+  left-entry e es h = left-first (limitsOf r t) (taskAt (r .runs) t) b e es h .entry
+
+  -- a step of the task takes it off
+  pub left-own : (e : Entry) (es : List Entry) → Shaped r → t < 16 → Left r b t (e ∷ es) → Left (movedOf r t (taskAt (r .runs) t .place + entryLength e)) b t es
+  unfolding movedOf
+  left-own e es s k h = rw (moved-own r t (taskAt (r .runs) t .place + entryLength e) s k) (left-first (limitsOf r t) (taskAt (r .runs) t) b e es h .rest)
+
+  -- a step of another task leaves it
+  pub left-other : (u next : ℕ) (es : List Entry) → (t ≡ u → ⊥) → Left r b t es → Left (movedOf r u next) b t es
+  unfolding movedOf
+  left-other u next es d h = rw (moved-other r u next t d) h
+
+-- at the start all of the task's accesses are left, as many as its count
+pub record LeftWhole (b : List ℕ) (p : Parsed) (t : ℕ) : Type 0 where
+  pub left : Left (openedRun p) b t (getD (p .recording .bodies) t [])
+  pub count : taskAt (openedRun p .runs) t .count ≡ length (getD (p .recording .bodies) t [])
+
+pub left-opened : (b : List ℕ) (p : Parsed) → parse b ≡ read p → (t : ℕ) → t < p .recording .tasks → LeftWhole b p t
+left-opened b p e t h =
+    let k : taskAt (openedRun p .runs) t ≡ startOf (getD (p .spans) t noSpan) = opened-stands b p e .task t h in
+    record { left = rw k (parse-bodies b p e t h .reads); count = rw k (parse-bodies b p e t h .accesses) }

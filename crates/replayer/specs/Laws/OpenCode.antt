@@ -1,0 +1,105 @@
+-- One turn of each loop of the opening, and the opening as the code does it, over plain variables.
+use mathlib.Core.Path.{_≡_, refl, sym, _∙_}
+use mathlib.Core.List.{List}
+use Prim.Native.Nat.{ℕ, zero, suc, _+_, _-_, _<_, min}
+use native.Mathlib.Numerals.{add-one}
+use native.Mathlib.Decide.{decLt}
+use native.Mathlib.Omega.{arith}
+use lib.ListN.{length, getD, set}
+use lib.Seq.{set-out}
+use borrow.Author.Tests.{eq-eqb, ne-eqb}
+use Rattle.reader.specs.declared.Span.{Span}
+use Rattle.reader.specs.declared.survey.Layout.{Layout}
+use Rattle.reader.specs.Calls.{noSpan}
+use Rattle.reader.specs.Laws.Laid.{Laid, laid-read, laid-refused, Valued, parse-valued}
+use Rattle.reader.specs.Layout.{layoutOf}
+use Rattle.reader.specs.Parse.{Parsed, parse}
+use Rattle.reader.specs.Laws.Positive.{parse-positive}
+use Rattle.reader.specs.Reading.{Reading, refused, read}
+use Rattle.reader.specs.Starting.{startingIn}
+use Rattle.reader.specs.Laws.Starting.{starting-there}
+use Rattle.codec.specs.Number.{entries as wrongLength}
+use Rattle.replayer.specs.Run.{blankTasks}
+use Rattle.replayer.specs.Laws.OpenOf.{starts-length}
+use Rattle.replayer.specs.OpenOf.{startOf, startsOf, begunOf, refusedOpen, onParse, openOf}
+
+-- the tasks
+pub starts-none : (spans : List Span) → startsOf spans 0 ≡ blankTasks
+unfolding startsOf
+starts-none spans = refl
+
+pub starts-more : (spans : List Span) (n : ℕ) → startsOf spans (n + 1) ≡ set (startsOf spans n) n (startOf (getD spans n noSpan))
+unfolding startsOf
+starts-more spans n = rw add-one
+
+-- no task at 16 or above is set
+pub starts-clipped : (spans : List Span) (n : ℕ) → startsOf spans (min n 16) ≡ startsOf spans n
+starts-clipped spans n = elim (decLt n 17) [
+  | yes h ↦ let e : min n 16 ≡ n = omega arith in rw e
+  | no h ↦ let e : min n 16 ≡ 16 = omega (arith, h) in let f : n ≡ 16 + (n - 16) = omega (arith, h) in rw e (rw f (sym (beyond (n - 16))))
+]
+  where
+    beyond : (k : ℕ) → startsOf spans (16 + k) ≡ startsOf spans 16
+    beyond zero = refl
+    beyond (suc k) =
+        let e : 16 + suc k ≡ (16 + k) + 1 = omega arith in
+        rw (e, starts-more spans (16 + k), set-out (startsOf spans (16 + k)) (16 + k) (startOf (getD spans (16 + k) noSpan)) (omega (arith, starts-length spans (16 + k)))) (beyond k)
+
+starts-same : (a b : List Span) (n : ℕ) → ((t : ℕ) → t < n → getD a t noSpan ≡ getD b t noSpan) → startsOf a n ≡ startsOf b n
+unfolding startsOf
+starts-same a b zero h = refl
+starts-same a b (suc n) h = rw (h n (omega arith), starts-same a b n (λ t k. h t (omega arith)))
+
+-- what opening finds in the layout
+pub record Refusing (b memory : List ℕ) (number offset : ℕ) : Type 0 where
+  pub answer : refusedOpen number offset ≡ openOf b memory .answer
+  pub kept : memory ≡ openOf b memory .memory
+
+pub record Opening (b memory : List ℕ) (l : Layout) : Type 0 where
+  pub answer : record { number = 0; offset = 0; run = begunOf l } ≡ openOf b memory .answer
+  pub values : startingIn b memory ≡ openOf b memory .memory
+
+module _ (b memory : List ℕ) (l : Layout) (e : l ≡ layoutOf (parse b)) where
+  pub open-bytes : (l .number ≡ 0 → ⊥) → Refusing b memory (l .number) (l .offset)
+  unfolding openOf onParse
+  open-bytes h = go (parse b) refl
+    where
+      go : (x : Reading Parsed) → parse b ≡ x → Refusing b memory (l .number) (l .offset)
+      go (refused c) q =
+          let n : l .number ≡ c .number = rw (e, q) (laid-refused c .0) in
+          let o : l .offset ≡ c .offset = rw (e, q) (laid-refused c .1) in
+          record { answer = rw (q, n, o); kept = rw q }
+      go (read p) q = absurd (h (rw e (laid-read b p q .number)))
+
+  pub open-length : l .number ≡ 0 → (length memory ≡ l .objects → ⊥) → Refusing b memory wrongLength 0
+  unfolding openOf onParse
+  open-length z h = go (parse b) refl
+    where
+      go : (x : Reading Parsed) → parse b ≡ x → Refusing b memory wrongLength 0
+      go (refused c) q = absurd (
+          let n : l .number ≡ c .number = rw (e, q) (laid-refused c .0) in
+          let p : 0 < c .number = rw q at (parse-positive b) in
+          omega arith)
+      go (read p) q =
+          let o : l .objects ≡ length (p .recording .owners) = rw e (laid-read b p q .objects) in
+          let d = ne-eqb (length memory) (length (p .recording .owners)) (λ k. h (k ∙ sym o)) in
+          record { answer = rw (q, d); kept = rw (q, d) }
+
+  pub open-opens : l .number ≡ 0 → length memory ≡ l .objects → Opening b memory l
+  unfolding openOf onParse
+  open-opens z h = go (parse b) refl
+    where
+      go : (x : Reading Parsed) → parse b ≡ x → Opening b memory l
+      go (refused c) q = absurd (
+          let n : l .number ≡ c .number = rw (e, q) (laid-refused c .0) in
+          let p : 0 < c .number = rw q at (parse-positive b) in
+          omega arith)
+      go (read p) q =
+          let w : Laid p l = rw e (laid-read b p q) in
+          let v : Valued b p = parse-valued b p q in
+          let n : length memory ≡ length (p .recording .owners) = h ∙ w .objects in
+          let d = eq-eqb (length memory) (length (p .recording .owners)) n in
+          record {
+            answer = rw (q, d, w .tasks, w .objects, starts-same (l .spans) (p .spans) (p .recording .tasks) (w .span));
+            values = rw (starting-there b memory (rw n (v .within)), q, d, n) (sym (v .values));
+          }

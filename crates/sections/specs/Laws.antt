@@ -1,0 +1,4 @@
+pub mod PackCode
+pub mod PackSections
+pub mod SectionBySection
+pub mod SectionCode

@@ -1,0 +1,72 @@
+-- What is read off the state after an access: Done rises by one for the accessing task alone, and what others have stays.
+use mathlib.Core.Bool.{Bool}
+use mathlib.Core.Path.{_≡_, refl, ap}
+use Prim.Native.Nat.{ℕ, _+_, _<_}
+use native.Mathlib.Omega.{arith}
+use lib.ListN.{length-set}
+use lib.Seq.{getD-set-same, getD-set-other}
+use Rattle.tracker.specs.State.{doneOf, seenOf, tookOf, localityOf, owned}
+use Rattle.tracker.specs.Laws.State.{Shaped}
+use Rattle.tracker.specs.Row.{rowAt}
+use Rattle.tracker.specs.Next.{localityAfter, effectOf, numberNow, nextOf}
+use Rattle.tracker.specs.declared.ObjectRecord.{ObjectRecord}
+use Rattle.tracker.specs.declared.State.{State}
+
+module _ (s : State) (task object : ℕ) (write : Bool) where
+  pub next-tasks : nextOf s task object write .tasks ≡ s .tasks
+  unfolding nextOf
+  next-tasks = refl
+
+  pub next-objects : nextOf s task object write .objects ≡ s .objects
+  unfolding nextOf
+  next-objects = refl
+
+  pub next-shaped : Shaped s → Shaped (nextOf s task object write)
+  unfolding nextOf
+  next-shaped l = record {
+    records = rw length-set (l .records);
+    done = rw length-set (l .done);
+    seen = rw length-set (l .seen);
+    took = rw length-set (l .took);
+  }
+
+  pub next-done : Shaped s → task < 16 → doneOf (nextOf s task object write) task ≡ doneOf s task + 1
+  unfolding nextOf
+  next-done l h = getD-set-same (s .done) task (numberNow s task) 0 (omega (arith, l .done))
+
+  pub next-locality : Shaped s → object < 256 →
+      localityOf (nextOf s task object write) object ≡ localityAfter (rowAt s task object write) s task (localityOf s object)
+  unfolding nextOf
+  next-locality l h = ap (λ (r : ObjectRecord). r .locality) (getD-set-same (s .records) object _ (owned 0) (omega (arith, l .records)))
+
+  pub next-seen : Shaped s → task < 16 →
+      seenOf (nextOf s task object write) task ≡ effectOf (rowAt s task object write) s task (localityOf s object) .seen
+  unfolding nextOf
+  next-seen l h = getD-set-same (s .seen) task _ 0 (omega (arith, l .seen))
+
+  pub next-took : Shaped s → task < 16 →
+      tookOf (nextOf s task object write) task ≡ effectOf (rowAt s task object write) s task (localityOf s object) .took
+  unfolding nextOf
+  next-took l h = getD-set-same (s .took) task _ 0 (omega (arith, l .took))
+
+  pub next-last : nextOf s task object write .last ≡ effectOf (rowAt s task object write) s task (localityOf s object) .last
+  unfolding nextOf
+  next-last = refl
+
+  -- the other tasks and objects
+  module _ (other : ℕ) where
+    pub other-done : (other ≡ task → ⊥) → doneOf (nextOf s task object write) other ≡ doneOf s other
+    unfolding nextOf
+    other-done n = getD-set-other (s .done) task other (numberNow s task) 0 n
+
+    pub other-seen : (other ≡ task → ⊥) → seenOf (nextOf s task object write) other ≡ seenOf s other
+    unfolding nextOf
+    other-seen n = getD-set-other (s .seen) task other _ 0 n
+
+    pub other-took : (other ≡ task → ⊥) → tookOf (nextOf s task object write) other ≡ tookOf s other
+    unfolding nextOf
+    other-took n = getD-set-other (s .took) task other _ 0 n
+
+    pub other-locality : (other ≡ object → ⊥) → localityOf (nextOf s task object write) other ≡ localityOf s other
+    unfolding nextOf
+    other-locality n = ap (λ (r : ObjectRecord). r .locality) (getD-set-other (s .records) object other _ (owned 0) n)
