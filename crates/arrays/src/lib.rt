@@ -5,7 +5,7 @@
 // A run's places are T and N, then for each task its place, end, done and count.
 ghost use mathlib.Core.Path.{_≡_};
 ghost use Rattle.codec.specs.Store.{store};
-ghost use Rattle.tracker.specs.Laws.Marks.{marksOf};
+ghost use Rattle.tracker.specs.Laws.Counters.{countersOf};
 ghost use Rattle.replayer.specs.Each.{each};
 ghost use Rattle.arrays.specs.Halves.{recordOf, recordIn, stateIn, caseOf, casesOf, holdersOf, sharesOf, firstOf, halvesOf, wordsOf};
 ghost use Rattle.arrays.specs.Places.{runIn, placesOf};
@@ -13,7 +13,7 @@ use codec::Position;
 use replayer::Run;
 use replayer::TaskRun;
 use tracker::Locality;
-use tracker::Marks;
+use tracker::Counters;
 use tracker::ObjectRecord;
 use tracker::State;
 use tracker::advance::holder_of;
@@ -45,8 +45,8 @@ fn records_of(halves: &[u16; 548], words: &[u32; 273]) -> [ObjectRecord; 256]
 }
 
 // All of a state but its objects' records.
-fn marks_of(halves: &[u16; 548], words: &[u32; 273]) -> Marks
-    ensures { λ r. ⌜ r ≡ marksOf (stateIn (now (halves .entry)) (now (words .entry))) ⌝ }
+fn counters_of(halves: &[u16; 548], words: &[u32; 273]) -> Counters
+    ensures { λ r. ⌜ r ≡ countersOf (stateIn (now (halves .entry)) (now (words .entry))) ⌝ }
 {
     let mut done = [0u16; 16];
     let mut seen = [0u32; 16];
@@ -60,7 +60,7 @@ fn marks_of(halves: &[u16; 548], words: &[u32; 273]) -> Marks
         task: halves[2],
         number: halves[3],
     };
-    Marks {
+    Counters {
         tasks: halves[0],
         objects: halves[1],
         done,
@@ -75,19 +75,19 @@ pub fn state_of(halves: &[u16; 548], words: &[u32; 273]) -> State
     ensures { λ r. ⌜ r ≡ stateIn (now (halves .entry)) (now (words .entry)) ⌝ }
 {
     let records = records_of(halves, words);
-    let marks = marks_of(halves, words);
-    let done = marks.done;
-    let seen = marks.seen;
-    let took = marks.took;
-    let last = marks.last;
+    let counters = counters_of(halves, words);
+    let done = counters.done;
+    let seen = counters.seen;
+    let took = counters.took;
+    let last = counters.last;
     State {
-        tasks: marks.tasks,
-        objects: marks.objects,
+        tasks: counters.tasks,
+        objects: counters.objects,
         records,
         done,
         seen,
         took,
-        shares: marks.shares,
+        shares: counters.shares,
         last,
     }
 }

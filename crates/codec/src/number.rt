@@ -7,17 +7,17 @@ pub const OBJECT_RANGE: u32 = 2;
 // 3: a list or memory not of N entries.
 pub const ENTRIES: u32 = 3;
 // 4: an owner not below T.
-pub const OWNER: u32 = 4;
+pub const OWNER_RANGE: u32 = 4;
 // 5: task not below T.
 pub const NO_TASK: u32 = 5;
 // 6: object not below N.
 pub const NO_OBJECT: u32 = 6;
 // 7: access neither 0 (read) nor 1 (write).
-pub const SORT: u32 = 7;
+pub const NO_SORT: u32 = 7;
 // 8: the task has made 65,535 accesses.
 pub const FULL: u32 = 8;
 // 9: output too short.
-pub const ROOM: u32 = 9;
+pub const NO_ROOM: u32 = 9;
 // 10: (a), (d): the record, or a section's body, is not all there.
 pub const SHORT: u32 = 10;
 // 11: (b), (c), (e): no such kind, or a wrong length.
@@ -27,7 +27,7 @@ pub const MISPLACED: u32 = 12;
 // 13: (g): a number out of range.
 pub const RANGE: u32 = 13;
 // 14: (a), (d) against a body's end, and a wrong count of accesses.
-pub const BODY: u32 = 14;
+pub const IN_BODY: u32 = 14;
 // 15: nothing left for this task.
 pub const FINISHED: u32 = 15;
 // 16: the task is held by an ordering.

@@ -55,8 +55,8 @@ abbrev pub actOf : Bool → ℕ → ℕ → Act
 actOf true object value = Act.write object value
 actOf false object value = Act.read object value
 
-abbrev pub entryOf : Box → AccessCall → Entry
-entryOf b c = record {
+abbrev pub recordedEntry : Box → AccessCall → Entry
+recordedEntry b c = record {
   task = c .task;
   act = actOf (isWrite (c .sort)) (c .object) (outcome b c .answer .value);
   orderings = writtenOf (b .state) (c .task) (c .object) (isWrite (c .sort));
@@ -82,7 +82,7 @@ pub record Adds : Type 0 where
 abbrev pub addedBy : Box → Call → Adds
 addedBy b (Call.access c) = record {
   answers = outcome b c .answer .value ∷ [];
-  entries = cond (accepts b c) (entryOf b c ∷ []) [];
+  entries = cond (accepts b c) (recordedEntry b c ∷ []) [];
   feeds = fedBy b c ∷ [];
 }
 

@@ -6,7 +6,7 @@ ghost use lib.ListN.{length};
 ghost use Rattle.codec.specs.Store.{store};
 ghost use Rattle.linked.specs.Answers.{copyNumbers};
 ghost use Rattle.linked.specs.CopyOf.{copyOf};
-use codec::number::ROOM;
+use codec::number::NO_ROOM;
 use reader::body;
 use reader::body_check;
 
@@ -42,7 +42,7 @@ pub extern "C" fn wk_body(bytes: &[u8], task: usize, out: &mut [u8], answer: &mu
         return;
     }
     if out.len() < size {
-        put_three(answer, ROOM as usize, 0, 0);
+        put_three(answer, NO_ROOM as usize, 0, 0);
         return;
     }
     put_bytes(out, part);

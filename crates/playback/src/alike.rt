@@ -8,8 +8,8 @@ ghost use Rattle.playback.specs.ToEnd.{playOf};
 use crate::finish::Played;
 use crate::to_end::play;
 use codec::number::ENTRIES;
-use reader::survey::Layout;
-use reader::survey::survey;
+use reader::layout::Layout;
+use reader::layout::locate;
 
 pub struct Compared {
     pub number: u32,
@@ -96,11 +96,11 @@ pub fn same_outcome(
     ensures { λ r. ⌜ now («first_memory» .exit) ≡ sameOutcomeOf (now (first .entry)) (now (second .entry)) (now («first_memory» .entry)) (now («second_memory» .entry)) .first ⌝ }
     ensures { λ r. ⌜ now («second_memory» .exit) ≡ sameOutcomeOf (now (first .entry)) (now (second .entry)) (now («first_memory» .entry)) (now («second_memory» .entry)) .second ⌝ }
 {
-    let l = survey(first);
+    let l = locate(first);
     if l.number != 0 {
         return refused(l.number, l.offset);
     }
-    let k = survey(second);
+    let k = locate(second);
     if k.number != 0 {
         return refused(k.number, k.offset);
     }

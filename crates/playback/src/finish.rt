@@ -11,7 +11,7 @@ use codec::limit::TASKS;
 use codec::limit::least;
 use codec::number::UNSOUND;
 use replayer::Run;
-use replayer::effect::perform;
+use replayer::stepping::perform;
 use replayer::sound::sound;
 
 // Whether a run has finished; 17 and no for one that is not sound.

@@ -8,8 +8,8 @@ ghost use Rattle.playback.specs.ToEnd.{playOf, refusedEnd, toEndOf};
 use crate::finish::Played;
 use crate::finish::finish;
 use codec::number::ENTRIES;
-use reader::survey::Layout;
-use reader::survey::survey;
+use reader::layout::Layout;
+use reader::layout::locate;
 use replayer::start::begin;
 
 // A run that has not finished is stuck.
@@ -46,7 +46,7 @@ pub fn replay_to_end(bytes: &[u8], memory: &mut [u32]) -> Replayed
     ensures { λ r. ⌜ r ≡ toEndOf (now (bytes .entry)) (now (memory .entry)) .answer ⌝ }
     ensures { λ r. ⌜ now (memory .exit) ≡ toEndOf (now (bytes .entry)) (now (memory .entry)) .memory ⌝ }
 {
-    let l = survey(bytes);
+    let l = locate(bytes);
     if l.number != 0 {
         return refused(l.number, l.offset);
     }

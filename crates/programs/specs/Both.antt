@@ -13,7 +13,7 @@ use Rattle.fidelity.specs.Box.{Opening, Asked, recorded}
 use Rattle.lines.specs.AccessLines.{accessLines}
 use Rattle.script.specs.RecordOf.{recordOf}
 use Rattle.text.specs.Decimal.{fieldOf}
-use Rattle.transcript.specs.Lines.{endOf, memoryOf}
+use Rattle.transcript.specs.Lines.{endLine, memoryOf}
 use Rattle.transcript.specs.Text.{textOf}
 use Rattle.programs.specs.Wanted.{wantedIn, wantedBy}
 
@@ -39,4 +39,4 @@ pub record Shown (text : List ℕ) : Type 0 where
   pub step-each : length steps ≡ length (accessLines text)
   pub lines : List ℕ
   pub line-each : Lines (recorded opening asked) (λ t. 0) steps lines
-  pub is : textOf (recordOf text .bytes) ≡ lines ++ endOf true (length (accessLines text)) ++ memoryOf (recordOf text .memory)
+  pub is : textOf (recordOf text .bytes) ≡ lines ++ endLine true (length (accessLines text)) ++ memoryOf (recordOf text .memory)

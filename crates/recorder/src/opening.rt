@@ -11,8 +11,8 @@ use codec::limit::TASKS;
 use codec::limit::within;
 use codec::number::ENTRIES;
 use codec::number::OBJECT_RANGE;
-use codec::number::OWNER;
-use codec::number::ROOM;
+use codec::number::OWNER_RANGE;
+use codec::number::NO_ROOM;
 use codec::number::TASK_RANGE;
 use tracker::Locality;
 use tracker::ObjectRecord;
@@ -63,10 +63,10 @@ pub(crate) fn open_number(
         return ENTRIES;
     }
     if !owners_below(owners, tasks) {
-        return OWNER;
+        return OWNER_RANGE;
     }
     if out < head_length(objects) {
-        return ROOM;
+        return NO_ROOM;
     }
     0
 }

@@ -17,14 +17,14 @@ use Rattle.reader.specs.Reading.{stop}
 use Rattle.replayer.specs.Laws.Next.{refusalOf}
 use Rattle.replayer.specs.Next.{isOpen}
 use Rattle.replayer.specs.StepOf.{refusedStep, onNext}
-use Rattle.replayer.specs.Laws.StepOf.{haltOf}
+use Rattle.replayer.specs.Laws.StepOf.{lateRefusal}
 
 pub not-found : (f : Found) → OneOf (1 ∷ []) (tagOf found-type f) → f ≡ FoundRefused (refusalOf f)
 not-found (FoundAccess o a n) h = absurd (miss (1 ∷ []) 0 tt h)
 not-found (FoundRefused c) h = refl
 
 pub not-open : (run : Run) (memory : List ℕ) (task : ℕ) (n : Next) → OneOf (1 ∷ 2 ∷ []) (tagOf next-type n)
-    → onNext run memory task n ≡ record { answer = refusedStep run (haltOf n .number) (haltOf n .offset); memory = memory }
+    → onNext run memory task n ≡ record { answer = refusedStep run (lateRefusal n .number) (lateRefusal n .offset); memory = memory }
 unfolding onNext
 not-open run memory task (Open o k) h = absurd (miss (1 ∷ 2 ∷ []) 0 tt h)
 not-open run memory task Held h = refl
@@ -41,15 +41,15 @@ closed-next Held h = refl
 closed-next (Refused c) h = refl
 
 -- what each arm of a `match` answers
-pub halt-open : (n : Next) → OneOf (0 ∷ []) (tagOf next-type n) → stop 0 0 ≡ haltOf n
-halt-open (Open o k) h = refl
-halt-open Held h = absurd (miss (0 ∷ []) 1 tt h)
-halt-open (Refused c) h = absurd (miss (0 ∷ []) 2 tt h)
+pub late-refusal-open : (n : Next) → OneOf (0 ∷ []) (tagOf next-type n) → stop 0 0 ≡ lateRefusal n
+late-refusal-open (Open o k) h = refl
+late-refusal-open Held h = absurd (miss (0 ∷ []) 1 tt h)
+late-refusal-open (Refused c) h = absurd (miss (0 ∷ []) 2 tt h)
 
-pub halt-held : (n : Next) → OneOf (1 ∷ []) (tagOf next-type n) → stop held 0 ≡ haltOf n
-halt-held (Open o k) h = absurd (miss (1 ∷ []) 0 tt h)
-halt-held Held h = refl
-halt-held (Refused c) h = absurd (miss (1 ∷ []) 2 tt h)
+pub late-refusal-held : (n : Next) → OneOf (1 ∷ []) (tagOf next-type n) → stop held 0 ≡ lateRefusal n
+late-refusal-held (Open o k) h = absurd (miss (1 ∷ []) 0 tt h)
+late-refusal-held Held h = refl
+late-refusal-held (Refused c) h = absurd (miss (1 ∷ []) 2 tt h)
 
 pub refusal-none : (f : Found) → OneOf (0 ∷ []) (tagOf found-type f) → stop 0 0 ≡ refusalOf f
 refusal-none (FoundAccess o a n) h = refl

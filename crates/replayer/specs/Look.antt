@@ -4,7 +4,7 @@ use mathlib.Core.List.{List}
 use Prim.Native.Nat.{ℕ}
 use Rattle.codec.specs.Number.{inBody}
 use Rattle.reader.specs.declared.Limits.{Limits}
-use Rattle.reader.specs.Entry.{entryOf}
+use Rattle.reader.specs.Entry.{entryAt}
 use Rattle.reader.specs.Part.{part}
 use Rattle.reader.specs.Reading.{Reading, stop}
 use Rattle.reader.specs.Recording.{Entry}
@@ -15,7 +15,7 @@ use Rattle.replayer.specs.Next.{judged}
 
 -- the group that is read from a place up to a body's end
 abbrev pub groupAt : Limits → List ℕ → ℕ → ℕ → Reading Entry
-groupAt m b place end = entryOf m (stop inBody place) place (part place end b)
+groupAt m b place end = entryAt m (stop inBody place) place (part place end b)
 
 -- a group that starts at a place, looked at with the counts done
 abbrev pub Looks : List ℕ → ℕ → Reading Entry → Next → Type 0

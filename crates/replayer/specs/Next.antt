@@ -6,7 +6,7 @@ use mathlib.Core.List.{List}
 use Prim.Native.Nat.{ℕ, _+_}
 use Rattle.codec.specs.Number.{inBody}
 use Rattle.reader.specs.Bytes.{entryLength}
-use Rattle.reader.specs.Entry.{entryOf}
+use Rattle.reader.specs.Entry.{entryAt}
 use Rattle.reader.specs.Part.{part}
 use Rattle.reader.specs.Reading.{Reading, refused, read, stop}
 use Rattle.reader.specs.Recording.{Entry}
@@ -20,7 +20,7 @@ use Rattle.replayer.specs.Met.{allMet}
 -- the next entry of a task
 unfoldable pub entryNext : Run → List ℕ → ℕ → Reading Entry
 entryNext r b t =
-    entryOf (limitsOf r t) (stop inBody (taskAt (r .runs) t .place)) (taskAt (r .runs) t .place) (part (taskAt (r .runs) t .place) (taskAt (r .runs) t .end) b)
+    entryAt (limitsOf r t) (stop inBody (taskAt (r .runs) t .place)) (taskAt (r .runs) t .place) (part (taskAt (r .runs) t .place) (taskAt (r .runs) t .end) b)
 
 -- an entry that starts at a place, held to what is done
 unfoldable pub judged : List TaskRun → ℕ → Reading Entry → Next

@@ -10,7 +10,7 @@ use codec::limit::TASKS;
 use codec::limit::least;
 use reader::Span;
 use reader::head::set_starting;
-use reader::survey::Layout;
+use reader::layout::Layout;
 
 fn blank_tasks() -> [TaskRun; 16]
     ensures { λ r. ⌜ r ≡ blankTasks ⌝ }

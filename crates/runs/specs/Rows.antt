@@ -7,7 +7,7 @@ use Rattle.codec.specs.declared.Position.{Position}
 use Rattle.tracker.specs.State.{position}
 use Rattle.tracker.specs.Row.{rowAt, numberOf}
 use Rattle.tracker.specs.Orderings.{writtenOf}
-use Rattle.tracker.specs.Next.{nextOf}
+use Rattle.tracker.specs.Next.{stateAfter}
 use Rattle.tracker.specs.Opened.{openedState}
 use Rattle.tracker.specs.declared.State.{State}
 
@@ -37,7 +37,7 @@ unfoldable pub trackedAll : State → List Access → List Tracked
 trackedAll s [] = []
 trackedAll s (a ∷ rest) =
     tracked (numberOf (rowAt s (a .task) (a .object) (a .write))) (writtenOf s (a .task) (a .object) (a .write))
-    ∷ trackedAll (nextOf s (a .task) (a .object) (a .write)) rest
+    ∷ trackedAll (stateAfter s (a .task) (a .object) (a .write)) rest
 
 -- two objects, both owned by task 0
 abbrev pub opened : ℕ → State

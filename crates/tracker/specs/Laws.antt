@@ -9,7 +9,7 @@ pub mod Facts
 pub mod Implied
 pub mod Invariant
 pub mod Kept
-pub mod Marks
+pub mod Counters
 pub mod Moves
 pub mod Named
 pub mod OneAccess

@@ -84,7 +84,7 @@ stepped s task object l e = record {
 }
 
 -- the state after an access by the table
-unfoldable pub nextOf : State → ℕ → ℕ → Bool → State
-nextOf s task object write =
+unfoldable pub stateAfter : State → ℕ → ℕ → Bool → State
+stateAfter s task object write =
     stepped s task object (localityAfter (rowAt s task object write) s task (localityOf s object))
     (effectOf (rowAt s task object write) s task (localityOf s object))

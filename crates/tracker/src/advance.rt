@@ -2,17 +2,17 @@
 ghost use mathlib.Core.Path.{_≡_};
 ghost use Prim.Native.Nat.{_+_, _<_, _^_};
 ghost use Rattle.tracker.specs.State.{holderOf, shareOf};
-ghost use Rattle.tracker.specs.Laws.ByRow.{plainPlan, sharePlan, fencePlan, takePlan, planBy};
+ghost use Rattle.tracker.specs.Laws.ByRow.{plainPlan, sharePlan, fencePlan, holdPlan, planBy};
 ghost use Rattle.tracker.specs.Laws.Plan.{Admits, planFor};
 use crate::Locality;
-use crate::Marks;
+use crate::Counters;
 use crate::Plan;
 use crate::Row;
 use crate::table::row_of;
 use codec::Position;
 
 // What a row may change besides the object, before the access: Seen and Took of its task, G and Last; `here` is (T2, k).
-struct Entries {
+struct Kept {
     here: Position,
     seen: u32,
     took: u16,
@@ -43,17 +43,17 @@ pub fn share_of(locality: Locality) -> u32
 }
 
 // A row that changes the object alone: every one but 5, 6 and 8.
-fn plain(row: u8, locality: Locality, entries: Entries, first: Position) -> Plan
-    ensures { λ r. ⌜ r ≡ plainPlan row locality entries first ⌝ }
+fn plain(row: u8, locality: Locality, kept: Kept, first: Position) -> Plan
+    ensures { λ r. ⌜ r ≡ plainPlan row locality kept first ⌝ }
 {
-    let last = entries.last;
+    let last = kept.last;
     let second = Position { task: 0, number: 0 };
     Plan {
         row,
         locality,
-        seen: entries.seen,
-        took: entries.took,
-        shares: entries.shares,
+        seen: kept.seen,
+        took: kept.took,
+        shares: kept.shares,
         last,
         first,
         second,
@@ -61,19 +61,19 @@ fn plain(row: u8, locality: Locality, entries: Entries, first: Position) -> Plan
 }
 
 // Row 5: the read makes the next share, and the task has seen it.
-fn share(entries: Entries, first: Position) -> Plan
-    requires { ⌜ entries .shares + 1 < 2 ^ 32 ⌝ }
-    ensures { λ r. ⌜ r ≡ sharePlan entries first ⌝ }
+fn share(kept: Kept, first: Position) -> Plan
+    requires { ⌜ kept .shares + 1 < 2 ^ 32 ⌝ }
+    ensures { λ r. ⌜ r ≡ sharePlan kept first ⌝ }
 {
-    let shares = entries.shares + 1;
+    let shares = kept.shares + 1;
     let locality = Locality::ReadShared(shares);
-    let last = entries.here;
-    let second = entries.last;
+    let last = kept.here;
+    let second = kept.last;
     Plan {
         row: 5,
         locality,
         seen: shares,
-        took: entries.took,
+        took: kept.took,
         shares,
         last,
         first,
@@ -82,18 +82,18 @@ fn share(entries: Entries, first: Position) -> Plan
 }
 
 // Row 6: the task has now seen the object's share.
-fn fence(locality: Locality, entries: Entries) -> Plan
-    ensures { λ r. ⌜ r ≡ fencePlan locality entries ⌝ }
+fn fence(locality: Locality, kept: Kept) -> Plan
+    ensures { λ r. ⌜ r ≡ fencePlan locality kept ⌝ }
 {
     let seen = share_of(locality);
-    let last = entries.last;
+    let last = kept.last;
     let second = Position { task: 0, number: 0 };
     Plan {
         row: 6,
         locality,
         seen,
-        took: entries.took,
-        shares: entries.shares,
+        took: kept.took,
+        shares: kept.shares,
         last,
         first: last,
         second,
@@ -101,19 +101,19 @@ fn fence(locality: Locality, entries: Entries) -> Plan
 }
 
 // Row 8: the task takes the object for reading, by this access.
-fn take(entries: Entries, first: Position) -> Plan
-    ensures { λ r. ⌜ r ≡ takePlan entries first ⌝ }
+fn hold(kept: Kept, first: Position) -> Plan
+    ensures { λ r. ⌜ r ≡ holdPlan kept first ⌝ }
 {
-    let here = entries.here;
+    let here = kept.here;
     let locality = Locality::ReadExclusive(here.task);
-    let last = entries.last;
+    let last = kept.last;
     let second = Position { task: 0, number: 0 };
     Plan {
         row: 8,
         locality,
-        seen: entries.seen,
+        seen: kept.seen,
         took: here.number,
-        shares: entries.shares,
+        shares: kept.shares,
         last,
         first,
         second,
@@ -121,56 +121,56 @@ fn take(entries: Entries, first: Position) -> Plan
 }
 
 // An access by its row: `done` is (T1, Done(T1)), and `took` is (T1, Took(T1)).
-fn by_row(row: Row, locality: Locality, entries: Entries, done: Position, took: Position) -> Plan
-    requires { ⌜ entries .shares + 1 < 2 ^ 32 ⌝ }
-    ensures { λ r. ⌜ r ≡ planBy row locality entries done took ⌝ }
+fn by_row(row: Row, locality: Locality, kept: Kept, done: Position, took: Position) -> Plan
+    requires { ⌜ kept .shares + 1 < 2 ^ 32 ⌝ }
+    ensures { λ r. ⌜ r ≡ planBy row locality kept done took ⌝ }
 {
-    let here = entries.here;
+    let here = kept.here;
     let mine = Locality::WriteExclusive(here.task);
     let none = Position { task: 0, number: 0 };
     match row {
-        Row::One => plain(1, locality, entries, none),
-        Row::Two => plain(2, locality, entries, none),
-        Row::Three => plain(3, locality, entries, none),
-        Row::Four => plain(4, mine, entries, none),
-        Row::Five => share(entries, took),
-        Row::Six => fence(locality, entries),
-        Row::Seven => plain(7, mine, entries, done),
-        Row::Eight => take(entries, done),
-        Row::Nine => plain(9, mine, entries, done),
-        Row::Ten => plain(10, mine, entries, none),
+        Row::One => plain(1, locality, kept, none),
+        Row::Two => plain(2, locality, kept, none),
+        Row::Three => plain(3, locality, kept, none),
+        Row::Four => plain(4, mine, kept, none),
+        Row::Five => share(kept, took),
+        Row::Six => fence(locality, kept),
+        Row::Seven => plain(7, mine, kept, done),
+        Row::Eight => hold(kept, done),
+        Row::Nine => plain(9, mine, kept, done),
+        Row::Ten => plain(10, mine, kept, none),
     }
 }
 
 // What an access to an object in `locality` does, by the table.
-pub fn decide(marks: Marks, locality: Locality, task: usize, write: bool) -> Plan
-    requires { ⌜ Admits marks locality task ⌝ }
-    ensures { λ r. ⌜ r ≡ planFor marks locality task write ⌝ }
+pub fn decide(counters: Counters, locality: Locality, task: usize, write: bool) -> Plan
+    requires { ⌜ Admits counters locality task ⌝ }
+    ensures { λ r. ⌜ r ≡ planFor counters locality task write ⌝ }
 {
     let me = task as u16;
     let here = Position {
         task: me,
-        number: marks.done[task] + 1,
+        number: counters.done[task] + 1,
     };
-    let seen = marks.seen[task];
-    let last = marks.last;
-    let entries = Entries {
+    let seen = counters.seen[task];
+    let last = counters.last;
+    let kept = Kept {
         here,
         seen,
-        took: marks.took[task],
-        shares: marks.shares,
+        took: counters.took[task],
+        shares: counters.shares,
         last,
     };
     let holder = holder_of(locality);
     let other = holder as usize;
     let done = Position {
         task: holder,
-        number: marks.done[other],
+        number: counters.done[other],
     };
     let took = Position {
         task: holder,
-        number: marks.took[other],
+        number: counters.took[other],
     };
     let row = row_of(locality, me, seen, write);
-    by_row(row, locality, entries, done, took)
+    by_row(row, locality, kept, done, took)
 }

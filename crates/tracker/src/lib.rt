@@ -1,6 +1,6 @@
 // The recorder's state, its soundness test and the transition table of document 01.
 ghost use mathlib.Core.Path.{_≡_};
-ghost use Rattle.tracker.specs.Laws.Marks.{marksOf};
+ghost use Rattle.tracker.specs.Laws.Counters.{countersOf};
 ghost use Rattle.tracker.specs.State.{blankState};
 use codec::Position;
 
@@ -35,7 +35,7 @@ pub struct State {
 }
 
 // A state without its objects' records: what an access may pass on by value at little cost.
-pub struct Marks {
+pub struct Counters {
     pub tasks: u16,
     pub objects: u16,
     pub done: [u16; 16],
@@ -91,14 +91,14 @@ pub fn blank() -> State
     }
 }
 
-pub fn marks_of(state: State) -> Marks
-    ensures { λ r. ⌜ r ≡ marksOf state ⌝ }
+pub fn counters_of(state: State) -> Counters
+    ensures { λ r. ⌜ r ≡ countersOf state ⌝ }
 {
     let done = state.done;
     let seen = state.seen;
     let took = state.took;
     let last = state.last;
-    Marks {
+    Counters {
         tasks: state.tasks,
         objects: state.objects,
         done,

@@ -2,10 +2,10 @@
 // over the records themselves, since a function that took them would be given a copy.
 ghost use mathlib.Core.Path.{_≡_};
 ghost use Prim.Native.Nat.{_≤_, min};
-ghost use Rattle.tracker.specs.Laws.Scan.{marksSound};
+ghost use Rattle.tracker.specs.Laws.Scan.{countersSound};
 ghost use Rattle.tracker.specs.Sound.{lastSound, taskSound, tasksSound, objectSound};
 use crate::Locality;
-use crate::Marks;
+use crate::Counters;
 use codec::Position;
 use codec::limit::OBJECTS;
 use codec::limit::TASKS;
@@ -64,19 +64,19 @@ fn tasks_sound(tasks: u16, shares: u32, done: [u16; 16], seen: [u32; 16], took: 
 }
 
 // All but the objects: T and N, Last, each task.
-pub fn marks_sound(marks: Marks) -> bool
-    ensures { λ r. ⌜ r ≡ marksSound marks ⌝ }
+pub fn counters_sound(counters: Counters) -> bool
+    ensures { λ r. ⌜ r ≡ countersSound counters ⌝ }
 {
-    let tasks = marks.tasks;
-    let shares = marks.shares;
-    let last = marks.last;
-    let done = marks.done;
-    let seen = marks.seen;
-    let took = marks.took;
+    let tasks = counters.tasks;
+    let shares = counters.shares;
+    let last = counters.last;
+    let done = counters.done;
+    let seen = counters.seen;
+    let took = counters.took;
     if !within(1, TASKS, tasks as usize) {
         return false;
     }
-    if !within(1, OBJECTS, marks.objects as usize) {
+    if !within(1, OBJECTS, counters.objects as usize) {
         return false;
     }
     if !last_sound(last, tasks, shares, done) {

@@ -23,8 +23,8 @@ unfoldable pub lineOf : ℕ → Stepped → List ℕ
 lineOf task s = fieldOf task 32 ++ fieldOf (s .access) 32 ++ (letterOf (s .kind) ∷ 32 ∷ []) ++ fieldOf (s .object) 32 ++ fieldOf (s .value) 10
 
 -- `end` or `stuck`, and the number of steps
-unfoldable pub endOf : Bool → ℕ → List ℕ
-endOf finished steps = cond finished (101 ∷ 110 ∷ 100 ∷ 32 ∷ []) (115 ∷ 116 ∷ 117 ∷ 99 ∷ 107 ∷ 32 ∷ []) ++ fieldOf steps 10
+unfoldable pub endLine : Bool → ℕ → List ℕ
+endLine finished steps = cond finished (101 ∷ 110 ∷ 100 ∷ 32 ∷ []) (115 ∷ 116 ∷ 117 ∷ 99 ∷ 107 ∷ 32 ∷ []) ++ fieldOf steps 10
 
 -- each value behind a space
 unfoldable pub spaced : List ℕ → List ℕ

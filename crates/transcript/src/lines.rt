@@ -3,7 +3,7 @@ ghost use mathlib.Core.Path.{_≡_};
 ghost use Prim.Native.Nat.{_+_, _≤_};
 ghost use lib.ListN.{length};
 ghost use Rattle.text.specs.Appended.{Appended};
-ghost use Rattle.transcript.specs.Lines.{letterOf, lineOf, endOf, refusalOf, memoryOf};
+ghost use Rattle.transcript.specs.Lines.{letterOf, lineOf, endLine, refusalOf, memoryOf};
 use codec::kind::reads;
 use replayer::Stepped;
 use text::put_byte;
@@ -31,8 +31,8 @@ pub(crate) fn put_step(out: &mut [u8], at: usize, task: usize, s: Stepped) -> us
 }
 
 pub(crate) fn put_end(out: &mut [u8], at: usize, finished: bool, steps: usize) -> usize
-    requires { ⌜ at + length (endOf finished steps) ≤ length (now out) ⌝ }
-    ensures { λ r. ⌜ Appended (endOf finished steps) (now (out .entry)) at (now (out .exit)) r ⌝ }
+    requires { ⌜ at + length (endLine finished steps) ≤ length (now out) ⌝ }
+    ensures { λ r. ⌜ Appended (endLine finished steps) (now (out .entry)) at (now (out .exit)) r ⌝ }
 {
     if finished {
         let end = put_bytes(out, at, b"end ");

@@ -39,18 +39,18 @@ module _ (v₀ v₁ v₂ v₃ : ℕ) (done took cases holders : ℕ → ℕ) (k 
   abbrev stored : List ℕ
   stored = v₀ ∷ v₁ ∷ v₂ ∷ v₃ ∷ tasks
 
-  past-marks : (i j : ℕ) → i ≡ 4 + j → getD stored i 0 ≡ getD tasks j 0
-  past-marks i j e = rw e (getD-append-add (v₀ ∷ v₁ ∷ v₂ ∷ v₃ ∷ []) tasks j 0)
+  past-counters : (i j : ℕ) → i ≡ 4 + j → getD stored i 0 ≡ getD tasks j 0
+  past-counters i j e = rw e (getD-append-add (v₀ ∷ v₁ ∷ v₂ ∷ v₃ ∷ []) tasks j 0)
 
   past-tasks : (i j : ℕ) → i ≡ 36 + j → getD stored i 0 ≡ getD objects j 0
   past-tasks i j e =
-      past-marks i (32 + j) (omega arith) ∙ past done 16 (16 + j) (32 + j) (each took 16 ++ objects) (omega arith) ∙ past took 16 j (16 + j) objects refl
+      past-counters i (32 + j) (omega arith) ∙ past done 16 (16 + j) (32 + j) (each took 16 ++ objects) (omega arith) ∙ past took 16 j (16 + j) objects refl
 
   done-at : k < 16 → getD stored (4 + k) 0 ≡ done k
-  done-at h = past-marks (4 + k) k refl ∙ front done 16 k (each took 16 ++ objects) h
+  done-at h = past-counters (4 + k) k refl ∙ front done 16 k (each took 16 ++ objects) h
 
   took-at : k < 16 → getD stored (20 + k) 0 ≡ took k
-  took-at h = past-marks (20 + k) (16 + k) (omega arith) ∙ past done 16 k (16 + k) (each took 16 ++ objects) refl ∙ front took 16 k objects h
+  took-at h = past-counters (20 + k) (16 + k) (omega arith) ∙ past done 16 k (16 + k) (each took 16 ++ objects) refl ∙ front took 16 k objects h
 
   case-at : k < 256 → getD stored (36 + k) 0 ≡ cases k
   case-at h = past-tasks (36 + k) k refl ∙ front cases 256 k (each holders 256) h

@@ -16,13 +16,13 @@ use Rattle.reader.specs.Range.{EntryIn, EntriesIn}
 use Rattle.history.specs.Entry.{Entry}
 use Rattle.history.specs.History.{History, count, At, here, there}
 use Rattle.history.specs.Laws.History.{count-own, count-other}
-use Rattle.tracker.specs.Laws.Accesses.{entryOf as trackedEntry}
+use Rattle.tracker.specs.Laws.Accesses.{trackedEntry}
 use Rattle.tracker.specs.Laws.After.{next-tasks, next-objects}
 use Rattle.tracker.specs.Laws.Tracks.{Tracks, tracks-more}
 use Rattle.recorder.specs.AccessOf.{isWrite}
 use Rattle.recorder.specs.Laws.Accepted.{Takes, written-length, entry-in, entry-bound}
 use Rattle.recorder.specs.WholeRun.{AccessCall, Call, Box, called, leftBy, calledAll}
-use Rattle.fidelity.specs.Box.{Fits, Asked, callsOf, accepts, entryOf, addedBy, recordedFrom}
+use Rattle.fidelity.specs.Box.{Fits, Asked, callsOf, accepts, recordedEntry, addedBy, recordedFrom}
 use Rattle.fidelity.specs.Filed.{filedOf}
 use Rattle.fidelity.specs.Laws.Matches.{Recordable}
 use Rattle.fidelity.specs.Laws.OneCall.{fileEntry, historyEntry, boxAfter, takenTurn, turnedAway, turn, entry-filed, memory-after, memory-length}
@@ -110,7 +110,7 @@ module _ {start : ℕ → ℕ} {tasks objects : ℕ} {b : Box} {h : History} (f 
       recordable = λ a. recordable-next a;
     }
 
-  follows-call : c .value < 4294967296 → Follows start tasks objects (called b c) (cond (accepts b c) (entryOf b c ∷ []) [] ++ h)
+  follows-call : c .value < 4294967296 → Follows start tasks objects (called b c) (cond (accepts b c) (recordedEntry b c ∷ []) [] ++ h)
   follows-call v = elim (turn b c) [
     | takenTurn k a x e s ↦ rw (a, e, s) (follows-next k v)
     | turnedAway a x s ↦ rw (a, s) f

@@ -15,13 +15,13 @@ use Rattle.reader.specs.Recording.{Entry as FileEntry}
 use Rattle.reader.specs.Bytes.{entryBytes, entryLength}
 use Rattle.history.specs.Entry.{Entry}
 use Rattle.tracker.specs.declared.State.{State}
-use Rattle.tracker.specs.Laws.Accesses.{entryOf as trackedEntry, memoryAfter as trackedMemory}
-use Rattle.tracker.specs.Next.{nextOf}
+use Rattle.tracker.specs.Laws.Accesses.{trackedEntry, memoryAfter as trackedMemory}
+use Rattle.tracker.specs.Next.{stateAfter}
 use Rattle.tracker.specs.Orderings.{writtenOf}
-use Rattle.recorder.specs.AccessOf.{isWrite, accepted, refused, valueAfter, memoryAfter, entryOf as writtenEntry}
+use Rattle.recorder.specs.AccessOf.{isWrite, accepted, refused, valueAfter, memoryAfter, writtenEntry}
 use Rattle.recorder.specs.Laws.Accepted.{Takes, takes-accepted, number-refused, number-takes, written-length}
 use Rattle.recorder.specs.WholeRun.{AccessCall, Box, outcome, called}
-use Rattle.fidelity.specs.Box.{accepts, actOf, entryOf}
+use Rattle.fidelity.specs.Box.{accepts, actOf, recordedEntry}
 use Rattle.fidelity.specs.Filed.{filed}
 
 -- what an accepted call writes, and its entry
@@ -34,7 +34,7 @@ historyEntry b c = trackedEntry (b .state) (c .task) (c .object) (isWrite (c .so
 -- the box after an accepted call
 abbrev pub boxAfter : Box → AccessCall → Box
 boxAfter b c = record {
-  state = nextOf (b .state) (c .task) (c .object) (isWrite (c .sort));
+  state = stateAfter (b .state) (c .task) (c .object) (isWrite (c .sort));
   memory = memoryAfter (isWrite (c .sort)) (c .object) (c .value) (b .memory);
   logs = λ t. cond (eqb (c .task) t) (b .logs t ++ entryBytes (fileEntry b c)) (b .logs t);
 }
@@ -42,7 +42,7 @@ boxAfter b c = record {
 pub data Turn (b : Box) (c : AccessCall) : Type 0 where
   takenTurn : Takes (b .state) (c .task) (c .object) (c .sort) (c .value) (b .memory) (c .out) → accepts b c ≡ true
       → outcome b c .answer .value ≡ valueAfter (isWrite (c .sort)) (c .object) (c .value) (b .memory)
-      → entryOf b c ≡ historyEntry b c → called b c ≡ boxAfter b c → Turn b c
+      → recordedEntry b c ≡ historyEntry b c → called b c ≡ boxAfter b c → Turn b c
   turnedAway : accepts b c ≡ false → outcome b c .answer .value ≡ 0 → called b c ≡ b → Turn b c
 
 act-same : (s : State) (task object : ℕ) (write : Bool) (value : ℕ) (memory : List ℕ)

@@ -7,7 +7,7 @@ use native.Mathlib.Omega.{arith}
 use lib.ListN.{length}
 use borrow.Author.Tests.{eq-eqb, ne-eqb}
 use Rattle.codec.specs.Number.{entries as wrongLength}
-use Rattle.reader.specs.declared.survey.Layout.{Layout}
+use Rattle.reader.specs.declared.layout.Layout.{Layout}
 use Rattle.reader.specs.Layout.{layoutOf}
 use Rattle.reader.specs.Parse.{parse}
 use Rattle.playback.specs.declared.finish.Played.{Played}

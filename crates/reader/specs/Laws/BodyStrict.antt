@@ -27,7 +27,7 @@ use Rattle.reader.specs.Recording.{Entry}
 use Rattle.reader.specs.Bytes.{orderingsBytes, entryBytes, entryLength, bodyBytes}
 use Rattle.reader.specs.Laws.Bytes.{entry-long}
 use Rattle.reader.specs.Range.{PositionIn, OpIn, EntryIn, EntriesIn}
-use Rattle.reader.specs.Entry.{after, orderingOk, accessOk, onRecord, accessOf, entryFrom, entryOf}
+use Rattle.reader.specs.Entry.{after, orderingOk, accessOk, onRecord, accessOf, entryFrom, entryAt}
 use Rattle.reader.specs.Body.{bodyFrom, bodyEntries}
 
 -- an entry: the bytes begin with it
@@ -84,8 +84,8 @@ entry-from (suc f) m ended at (x ∷ b) by =
     came-record m at (recordOf inBody (x ∷ b)) (x ∷ b) (λ r. entryFrom f m (stop misplaced at) (at + 8) r) (record-begins (x ∷ b) by inBody)
     (entry-from f m (stop misplaced at) (at + 8) (drop 8 (x ∷ b)) (bytes-drop 8 (x ∷ b) by))
 
-entry-came : (m : Limits) (ended : Checked) (at : ℕ) (b : List ℕ) → Bytes b → Came m b (entryOf m ended at b)
-unfolding entryOf
+entry-came : (m : Limits) (ended : Checked) (at : ℕ) (b : List ℕ) → Bytes b → Came m b (entryAt m ended at b)
+unfolding entryAt
 entry-came m ended at b by = entry-from (length b) m ended at b by
 
 -- a body: the bytes are its accesses'
@@ -106,7 +106,7 @@ body-from zero m at (x ∷ b) h by = absurd (omega arith)
 body-from (suc f) m at [] h by = (refl, tt)
 body-from (suc f) m at (x ∷ b) h by =
     go (λ e i. body-from f m (at + entryLength e) (drop (entryLength e) (x ∷ b)) (rw length-drop (omega (arith, entry-long e (i .op .access)))) (bytes-drop (entryLength e) (x ∷ b) by))
-    (entryOf m (stop inBody at) at (x ∷ b)) (entry-came m (stop inBody at) at (x ∷ b) by)
+    (entryAt m (stop inBody at) at (x ∷ b)) (entry-came m (stop inBody at) at (x ∷ b) by)
   where
     go : ((e : Entry) → EntryIn m e → CameBody m (drop (entryLength e) (x ∷ b)) (bodyFrom f m (at + entryLength e) (drop (entryLength e) (x ∷ b))))
         → (y : Reading Entry) → Came m (x ∷ b) y

@@ -16,7 +16,7 @@ use Rattle.codec.specs.Field.{field2, field4}
 use Rattle.codec.specs.Head.{headLength, headStep, valueBehind}
 use Rattle.codec.specs.Number.{short, range}
 use Rattle.reader.specs.declared.Checked.{Checked}
-use Rattle.reader.specs.declared.survey.Layout.{Layout}
+use Rattle.reader.specs.declared.layout.Layout.{Layout}
 use Rattle.reader.specs.Reading.{Reading, refused, read, stop, mapped}
 use Rattle.reader.specs.Section.{TaskBody}
 use Rattle.reader.specs.Parse.{HeadFields, Parsed, parsedOf, ownersOf, valuesOf, allBelow, sizesOk, onHead, headAt, sectionsAfter, parse}

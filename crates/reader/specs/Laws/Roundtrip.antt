@@ -9,8 +9,8 @@ use lib.Seq.{take-at, drop-at, drop-drop}
 use borrow.Author.Tests.{lt-ltb, eq-eqb, ne-eqb}
 use Rattle.codec.specs.declared.Position.{Position}
 use Rattle.codec.specs.declared.Op.{Op}
-use Rattle.codec.specs.Encode.{startTwo, cell, cells, head, section, ordering, access}
-use Rattle.codec.specs.Laws.Encode.{startTwo-length, ordering-length, access-long, section-length, cells-length, head-length}
+use Rattle.codec.specs.Encode.{startTwo, headObject, headObjects, head, section, ordering, access}
+use Rattle.codec.specs.Laws.Encode.{startTwo-length, ordering-length, access-long, section-length, head-objects-length, head-length}
 use Rattle.codec.specs.Field.{le2, le4, field2, field4}
 use Rattle.codec.specs.Laws.Field.{field4-le4}
 use Rattle.codec.specs.Kind.{headKind}
@@ -27,7 +27,7 @@ use Rattle.reader.specs.Recording.{Entry, Recording}
 use Rattle.reader.specs.Bytes.{orderingsBytes, entryBytes, entryLength, bodyBytes, sectionsBytes, bytesOf}
 use Rattle.reader.specs.Laws.Bytes.{entry-length, entry-some}
 use Rattle.reader.specs.Range.{PositionIn, OpIn, OrderingsIn, EntryIn, EntriesIn, BodyIn, BodiesIn, AllUnder, HeadIn, InRange}
-use Rattle.reader.specs.Entry.{orderingOk, accessOk, onRecord, accessOf, entryOf}
+use Rattle.reader.specs.Entry.{orderingOk, accessOk, onRecord, accessOf, entryAt}
 use Rattle.reader.specs.Laws.Entry.{entry-ordering, entry-step}
 use Rattle.reader.specs.Body.{bodyEntries}
 use Rattle.reader.specs.Laws.Body.{body-end, body-step}
@@ -53,7 +53,7 @@ op-fits m o s i = record { access = i .access; object = omega (arith, s .objects
 module _ (m : Limits) (s : Small m) where
   -- an access with its orderings, whatever follows
   orderings-back : (ended : Checked) (at : ℕ) (ps : List Position) (o : Op) (r : List ℕ) → OrderingsIn m ps → OpIn m o
-      → entryOf m ended at (orderingsBytes ps ++ (access o ++ r)) ≡ read (record { orderings = ps; op = o })
+      → entryAt m ended at (orderingsBytes ps ++ (access o ++ r)) ≡ read (record { orderings = ps; op = o })
   unfolding orderingsBytes onRecord accessOf
   orderings-back ended at [] o r i j =
       entry-step m ended at (access o ++ r) (omega (arith, length-append (access o) r, access-long o))
@@ -64,7 +64,7 @@ module _ (m : Limits) (s : Small m) where
       (read-ordering inBody p l (record { task = omega (arith, i .0 .below, s .tasks); number = i .0 .fits })) (position-ok m p (i .0))
       ∙ rw (drop-at (ordering p) l 8 (ordering-length p), orderings-back _ (at + 8) ps o r (i .1) j))
 
-  pub entry-back : (ended : Checked) (at : ℕ) (e : Entry) (r : List ℕ) → EntryIn m e → entryOf m ended at (entryBytes e ++ r) ≡ read e
+  pub entry-back : (ended : Checked) (at : ℕ) (e : Entry) (r : List ℕ) → EntryIn m e → entryAt m ended at (entryBytes e ++ r) ≡ read e
   unfolding entryBytes
   entry-back ended at e r i = rw append-assoc (orderings-back ended at (e .orderings) (e .op) r (i .orderings) (i .op))
 
@@ -117,14 +117,14 @@ sections-back tasks objects ht ho t at (es ∷ bodies) h i =
       sections-back tasks objects ht ho (suc t) (bodyStart at + L) bodies (omega arith) (i .1),
     )
 
-owners-back : (owners values : List ℕ) (r : List ℕ) → length values ≡ length owners → ownersOf (length owners) (cells owners values ++ r) ≡ owners
-unfolding ownersOf cells cell le2 le4
+owners-back : (owners values : List ℕ) (r : List ℕ) → length values ≡ length owners → ownersOf (length owners) (headObjects owners values ++ r) ≡ owners
+unfolding ownersOf headObjects headObject le2 le4
 owners-back [] values r h = refl
 owners-back (o ∷ owners) [] r h = absurd (omega arith)
 owners-back (o ∷ owners) (v ∷ values) r h = ap (λ (l : List ℕ). o ∷ l) (owners-back owners values r (omega arith))
 
-values-back : (owners values : List ℕ) (r : List ℕ) → length values ≡ length owners → AllUnder 4294967296 values → valuesOf (length owners) (cells owners values ++ r) ≡ values
-unfolding valuesOf cells cell le2 le4 field2 field4
+values-back : (owners values : List ℕ) (r : List ℕ) → length values ≡ length owners → AllUnder 4294967296 values → valuesOf (length owners) (headObjects owners values ++ r) ≡ values
+unfolding valuesOf headObjects headObject le2 le4 field2 field4
 values-back [] [] r h i = refl
 values-back [] (v ∷ values) r h i = absurd (omega arith)
 values-back (o ∷ owners) [] r h i = absurd (omega arith)
@@ -146,11 +146,11 @@ unfolding headAt onHead head
 head-back r rest i =
     let n : ℕ = length (r .owners) in
     let s : List ℕ = startTwo (headLength n) headKind (r .tasks) n in
-    let c : List ℕ = cells (r .owners) (r .values) in
+    let c : List ℕ = headObjects (r .owners) (r .values) in
     let few = i .few-tasks in
     rw (
       append-assoc,
-      read-head short (r .tasks) n (c ++ rest) (omega arith) (i .few-objects) (omega (arith, length-append c rest, cells-length (r .owners) (r .values) (i .value-each))),
+      read-head short (r .tasks) n (c ++ rest) (omega arith) (i .few-objects) (omega (arith, length-append c rest, head-objects-length (r .owners) (r .values) (i .value-each))),
       drop-at s (c ++ rest) 8 (startTwo-length _ _ _ _),
       owners-back (r .owners) (r .values) rest (i .value-each),
       values-back (r .owners) (r .values) rest (i .value-each) (i .values-in),

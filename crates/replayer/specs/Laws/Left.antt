@@ -12,7 +12,7 @@ use Rattle.reader.specs.Body.{bodyEntries}
 use Rattle.reader.specs.Laws.Body.{body-end, body-step}
 use Rattle.reader.specs.Bytes.{entryLength}
 use Rattle.reader.specs.Calls.{noSpan}
-use Rattle.reader.specs.Entry.{entryOf}
+use Rattle.reader.specs.Entry.{entryAt}
 use Rattle.reader.specs.Parse.{Parsed, parse}
 use Rattle.reader.specs.Part.{part}
 use Rattle.reader.specs.Laws.Part.{part-drop}
@@ -35,7 +35,7 @@ Left r b t es = LeftOf (limitsOf r t) (taskAt (r .runs) t) b es
 
 -- a body that begins with an entry: the entry is read first, and the rest behind it
 record First (m : Limits) (x : TaskRun) (b : List ℕ) (e : Entry) (es : List Entry) : Type 0 where
-  pub entry : entryOf m (stop inBody (x .place)) (x .place) (part (x .place) (x .end) b) ≡ read e
+  pub entry : entryAt m (stop inBody (x .place)) (x .place) (part (x .place) (x .end) b) ≡ read e
   pub rest : LeftOf m (advanced x (x .place + entryLength e)) b es
 
 first-of : (m : Limits) (at : ℕ) (e : Entry) (es : List Entry) (l : List ℕ) (y : Reading Entry)
@@ -62,7 +62,7 @@ left-first m x b e es h = go (part (x .place) (x .end) b) refl
         omega arith)
     go (c ∷ l) q =
         let k : 0 < length (part (x .place) (x .end) b) = rw q (omega arith) in
-        let w = first-of m (x .place) e es (part (x .place) (x .end) b) (entryOf m (stop inBody (x .place)) (x .place) (part (x .place) (x .end) b))
+        let w = first-of m (x .place) e es (part (x .place) (x .end) b) (entryAt m (stop inBody (x .place)) (x .place) (part (x .place) (x .end) b))
         (sym (body-step m (x .place) (part (x .place) (x .end) b) k) ∙ h) in
         record { entry = w .0; rest = rw (part-drop (entryLength e) (x .place) (x .end) b) at (w .1) }
 

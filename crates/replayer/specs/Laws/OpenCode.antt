@@ -9,7 +9,7 @@ use lib.ListN.{length, getD, set}
 use lib.Seq.{set-out}
 use borrow.Author.Tests.{eq-eqb, ne-eqb}
 use Rattle.reader.specs.declared.Span.{Span}
-use Rattle.reader.specs.declared.survey.Layout.{Layout}
+use Rattle.reader.specs.declared.layout.Layout.{Layout}
 use Rattle.reader.specs.Calls.{noSpan}
 use Rattle.reader.specs.Laws.Laid.{Laid, laid-read, laid-refused, Valued, parse-valued}
 use Rattle.reader.specs.Layout.{layoutOf}

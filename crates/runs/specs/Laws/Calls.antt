@@ -1,18 +1,18 @@
 -- Laws of `Calls`.
 use mathlib.Core.Path.{refl}
-use Rattle.codec.specs.Encode.{start, startTwo, cell, cells, head, section, ordering, opOf, access}
+use Rattle.codec.specs.Encode.{start, startTwo, headObject, headObjects, head, section, ordering, opOf, access}
 use Rattle.codec.specs.Field.{le2, le4, field2, field4}
 use Rattle.codec.specs.Kind.{storesValue}
 use Rattle.codec.specs.Decode.{recordOf, headOf, sectionOf as sectionRecordOf, bodyOf as fieldsOf}
 use Rattle.codec.specs.Store.{store}
 use Rattle.reader.specs.Bytes.{orderingsBytes, entryBytes}
-use Rattle.reader.specs.Entry.{orderingOk, accessOk, accessOf as accessRecordOf, onRecord, entryFrom, entryOf as readEntry}
+use Rattle.reader.specs.Entry.{orderingOk, accessOk, accessOf as accessRecordOf, onRecord, entryFrom, entryAt as readEntry}
 use Rattle.reader.specs.Body.{bodyFrom, bodyEntries, tally, judged, walkOf}
 use Rattle.reader.specs.Section.{taken, sectionBody, onSection, sectionAt, sectionsOf}
 use Rattle.reader.specs.Parse.{ownersOf, valuesOf, allBelow, sizesOk, onHead, headAt, sectionsAfter, parse}
 use Rattle.reader.specs.Calls.{checkedOf}
 use Rattle.tracker.specs.Class.{classOf}
-use Rattle.tracker.specs.Next.{localityAfter, effectOf, nextOf}
+use Rattle.tracker.specs.Next.{localityAfter, effectOf, stateAfter}
 use Rattle.tracker.specs.Opened.{ownedRecords, openedState}
 use Rattle.tracker.specs.Orderings.{everyDone, orderingsOf, leftOut, written}
 use Rattle.codec.specs.Limit.{isWithin}
@@ -27,7 +27,7 @@ use Rattle.recorder.specs.WholeRun.{outcome, called, calledAll, packed}
 use Rattle.runs.specs.Calls.{Calls}
 
 pub calls : Calls
-unfolding openOf opened openNumber entriesOk allBelow openedState ownedRecords outcome called calledAll packed accessOf accessNumber checked accepted refused soundOf lastSound taskSound tasksSound objectSound sumOf isWithin allPass rowOf orderingsOf everyDone written leftOut nextOf localityAfter effectOf classOf store orderingsBytes entryBytes ordering opOf access storesValue start startTwo le2 le4 head cell cells section sectionOf sectionChecked logChecked walkOf judged tally bodyEntries bodyFrom readEntry entryFrom onRecord accessRecordOf accessOk orderingOk recordOf headOf sectionRecordOf fieldsOf field2 field4 checkedOf parse headAt onHead sectionsAfter sectionsOf sectionAt onSection sectionBody taken ownersOf valuesOf sizesOk
+unfolding openOf opened openNumber entriesOk allBelow openedState ownedRecords outcome called calledAll packed accessOf accessNumber checked accepted refused soundOf lastSound taskSound tasksSound objectSound sumOf isWithin allPass rowOf orderingsOf everyDone written leftOut stateAfter localityAfter effectOf classOf store orderingsBytes entryBytes ordering opOf access storesValue start startTwo le2 le4 head headObject headObjects section sectionOf sectionChecked logChecked walkOf judged tally bodyEntries bodyFrom readEntry entryFrom onRecord accessRecordOf accessOk orderingOk recordOf headOf sectionRecordOf fieldsOf field2 field4 checkedOf parse headAt onHead sectionsAfter sectionsOf sectionAt onSection sectionBody taken ownersOf valuesOf sizesOk
 calls = record {
   a-body-0 = refl;
   a-body-1 = refl;

@@ -2,10 +2,10 @@
 use mathlib.Core.Path.{refl}
 use Rattle.tracker.specs.Row.{rowOf}
 use Rattle.tracker.specs.Orderings.{everyDone, orderingsOf, leftOut, written}
-use Rattle.tracker.specs.Next.{localityAfter, effectOf, nextOf}
+use Rattle.tracker.specs.Next.{localityAfter, effectOf, stateAfter}
 use Rattle.tracker.specs.Opened.{ownedRecords, openedState}
 use Rattle.runs.specs.Rows.{trackedAll, Rows}
 
 pub rows : Rows
-unfolding trackedAll openedState ownedRecords rowOf orderingsOf everyDone written leftOut nextOf localityAfter effectOf
+unfolding trackedAll openedState ownedRecords rowOf orderingsOf everyDone written leftOut stateAfter localityAfter effectOf
 rows = record { a = refl; fence = refl; four = refl; took = refl }

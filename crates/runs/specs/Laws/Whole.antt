@@ -1,14 +1,14 @@
 -- Laws of `Whole`.
 use mathlib.Core.Path.{refl}
 use Rattle.codec.specs.Decode.{recordOf, headOf, sectionOf as sectionOf-codec-decode, bodyOf as bodyOf-codec-decode}
-use Rattle.codec.specs.Encode.{ordering, opOf, access, start, startTwo, head, cell, cells, section}
+use Rattle.codec.specs.Encode.{ordering, opOf, access, start, startTwo, head, headObject, headObjects, section}
 use Rattle.codec.specs.Field.{le2, le4, field2, field4}
 use Rattle.codec.specs.Kind.{storesValue, writes}
 use Rattle.codec.specs.Store.{store}
 use Rattle.reader.specs.Body.{walkOf, judged, tally, bodyEntries, bodyFrom}
 use Rattle.reader.specs.Bytes.{orderingsBytes, entryBytes, bodyBytes, sectionsBytes, bytesOf}
 use Rattle.reader.specs.Calls.{checkedOf}
-use Rattle.reader.specs.Entry.{entryOf, entryFrom, onRecord, accessOf as accessOf-reader-entry, accessOk, orderingOk}
+use Rattle.reader.specs.Entry.{entryAt, entryFrom, onRecord, accessOf as accessOf-reader-entry, accessOk, orderingOk}
 use Rattle.reader.specs.Parse.{allBelow, parse, headAt, onHead, sectionsAfter, ownersOf, valuesOf, sizesOk}
 use Rattle.reader.specs.Part.{part}
 use Rattle.reader.specs.Section.{sectionsOf, sectionAt, onSection, sectionBody, taken}
@@ -18,15 +18,15 @@ use Rattle.sections.specs.SectionOf.{sectionOf, sectionChecked, logChecked}
 use Rattle.recorder.specs.WholeRun.{outcome, called, calledAll, packed}
 use Rattle.replayer.specs.All.{allFrom}
 use Rattle.replayer.specs.Met.{allMet}
-use Rattle.replayer.specs.Next.{entryNext, judged as judged-replayer-next, nextOf as nextOf-replayer-next}
+use Rattle.replayer.specs.Next.{entryNext, judged as judged-replayer-next, stateAfter as nextOf-replayer-next}
 use Rattle.replayer.specs.OpenOf.{startsOf, onParse, openOf as openOf-replayer-openof}
 use Rattle.replayer.specs.ReadyOf.{isReady, readyOf}
 use Rattle.replayer.specs.Run.{movedOf}
 use Rattle.replayer.specs.Sound.{taskSound as taskSound-replayer-sound, soundOf as soundOf-replayer-sound}
-use Rattle.replayer.specs.StepOf.{barredOf, onNext, stepOf}
+use Rattle.replayer.specs.StepOf.{earlyNumber, onNext, stepOf}
 use Rattle.replayer.specs.Word.{wordOf}
 use Rattle.tracker.specs.Class.{classOf}
-use Rattle.tracker.specs.Next.{nextOf, localityAfter, effectOf}
+use Rattle.tracker.specs.Next.{stateAfter, localityAfter, effectOf}
 use Rattle.tracker.specs.Opened.{openedState, ownedRecords}
 use Rattle.tracker.specs.Orderings.{orderingsOf, everyDone, written, leftOut}
 use Rattle.codec.specs.Limit.{isWithin}
@@ -39,5 +39,5 @@ use Rattle.fidelity.specs.Bench.{steppedAll, tally as tallySteps}
 use Rattle.runs.specs.Whole.{Whole}
 
 pub whole : Whole
-unfolding openOf opened openNumber entriesOk allBelow openedState ownedRecords outcome called calledAll packed accessOf accessNumber checked accepted refused soundOf lastSound taskSound tasksSound objectSound sumOf isWithin allBelow-tracker-range rowOf orderingsOf everyDone written leftOut nextOf localityAfter effectOf classOf store orderingsBytes entryBytes ordering opOf access storesValue writes start startTwo le2 le4 head cell cells section sectionOf sectionChecked logChecked walkOf judged tally bodyEntries bodyFrom entryOf entryFrom onRecord accessOf-reader-entry accessOk orderingOk recordOf headOf sectionOf-codec-decode bodyOf-codec-decode field2 field4 checkedOf parse headAt onHead sectionsAfter sectionsOf sectionAt onSection sectionBody taken ownersOf valuesOf sizesOk bodyBytes sectionsBytes bytesOf part allFrom taskSound-replayer-sound soundOf-replayer-sound allMet movedOf entryNext judged-replayer-next nextOf-replayer-next wordOf isReady readyOf startsOf onParse openOf-replayer-openof barredOf onNext stepOf recordedFrom steppedAll tallySteps
+unfolding openOf opened openNumber entriesOk allBelow openedState ownedRecords outcome called calledAll packed accessOf accessNumber checked accepted refused soundOf lastSound taskSound tasksSound objectSound sumOf isWithin allBelow-tracker-range rowOf orderingsOf everyDone written leftOut stateAfter localityAfter effectOf classOf store orderingsBytes entryBytes ordering opOf access storesValue writes start startTwo le2 le4 head headObject headObjects section sectionOf sectionChecked logChecked walkOf judged tally bodyEntries bodyFrom entryAt entryFrom onRecord accessOf-reader-entry accessOk orderingOk recordOf headOf sectionOf-codec-decode bodyOf-codec-decode field2 field4 checkedOf parse headAt onHead sectionsAfter sectionsOf sectionAt onSection sectionBody taken ownersOf valuesOf sizesOk bodyBytes sectionsBytes bytesOf part allFrom taskSound-replayer-sound soundOf-replayer-sound allMet movedOf entryNext judged-replayer-next nextOf-replayer-next wordOf isReady readyOf startsOf onParse openOf-replayer-openof earlyNumber onNext stepOf recordedFrom steppedAll tallySteps
 whole = record { size = refl; first-word = refl; second-word = refl; held = refl; end-word = refl; end-memory = refl; end-taken = refl }

@@ -12,8 +12,8 @@ actOf object true value held = Act.write object value
 actOf object false value held = Act.read object held
 
 -- the entry of an access: its act, and the orderings that the table writes
-abbrev pub entryOf : State → ℕ → ℕ → Bool → ℕ → ℕ → Entry
-entryOf s task object write value held = record {
+abbrev pub trackedEntry : State → ℕ → ℕ → Bool → ℕ → ℕ → Entry
+trackedEntry s task object write value held = record {
   task = task;
   act = actOf object write value held;
   orderings = writtenOf s task object write;

@@ -8,18 +8,18 @@ use Rattle.tracker.specs.Row.{rowOf}
 use Rattle.tracker.specs.Laws.Plan.{planned, planFor, fewOf}
 use Rattle.tracker.specs.Orderings.{orderingsOf}
 use Rattle.tracker.specs.Next.{localityAfter, effectOf, numberNow, fenceSeen}
-use Rattle.tracker.specs.declared.advance.Entries.{Entries}
-use Rattle.tracker.specs.Laws.Marks.{stateOf}
+use Rattle.tracker.specs.declared.advance.Kept.{Kept}
+use Rattle.tracker.specs.Laws.Counters.{stateOf}
 use Rattle.tracker.specs.declared.Locality.{Locality}
 use Rattle.tracker.specs.declared.Locality.the-variants.{WriteExclusive, ReadExclusive, ReadShared}
-use Rattle.tracker.specs.declared.Marks.{Marks}
+use Rattle.tracker.specs.declared.Counters.{Counters}
 use Rattle.tracker.specs.declared.Plan.{Plan}
 use Rattle.tracker.specs.declared.Row.{Row}
 use Rattle.tracker.specs.declared.Row.the-variants.{One, Two, Three, Four, Five, Six, Seven, Eight, Nine, Ten}
 use Rattle.tracker.specs.declared.State.{State}
 
 -- the plans, over the entries that they read: rows that change the object alone, and rows 5, 6 and 8
-abbrev pub plainPlan : ℕ → Locality → Entries → Position → Plan
+abbrev pub plainPlan : ℕ → Locality → Kept → Position → Plan
 plainPlan row l e first = record {
   row = row;
   locality = l;
@@ -31,7 +31,7 @@ plainPlan row l e first = record {
   second = nowhere;
 }
 
-abbrev pub sharePlan : Entries → Position → Plan
+abbrev pub sharePlan : Kept → Position → Plan
 sharePlan e first = record {
   row = 5;
   locality = ReadShared (e .shares + 1);
@@ -43,7 +43,7 @@ sharePlan e first = record {
   second = e .last;
 }
 
-abbrev pub fencePlan : Locality → Entries → Plan
+abbrev pub fencePlan : Locality → Kept → Plan
 fencePlan l e = record {
   row = 6;
   locality = l;
@@ -55,8 +55,8 @@ fencePlan l e = record {
   second = nowhere;
 }
 
-abbrev pub takePlan : Entries → Position → Plan
-takePlan e first = record {
+abbrev pub holdPlan : Kept → Position → Plan
+holdPlan e first = record {
   row = 8;
   locality = ReadExclusive (e .here .task);
   seen = e .seen;
@@ -67,7 +67,7 @@ takePlan e first = record {
   second = nowhere;
 }
 
-abbrev pub planBy : Row → Locality → Entries → Position → Position → Plan
+abbrev pub planBy : Row → Locality → Kept → Position → Position → Plan
 planBy One l e done took = plainPlan 1 l e nowhere
 planBy Two l e done took = plainPlan 2 l e nowhere
 planBy Three l e done took = plainPlan 3 l e nowhere
@@ -75,13 +75,13 @@ planBy Four l e done took = plainPlan 4 (WriteExclusive (e .here .task)) e nowhe
 planBy Five l e done took = sharePlan e took
 planBy Six l e done took = fencePlan l e
 planBy Seven l e done took = plainPlan 7 (WriteExclusive (e .here .task)) e done
-planBy Eight l e done took = takePlan e done
+planBy Eight l e done took = holdPlan e done
 planBy Nine l e done took = plainPlan 9 (WriteExclusive (e .here .task)) e done
 planBy Ten l e done took = plainPlan 10 (WriteExclusive (e .here .task)) e nowhere
 
 -- what the code gathers of the accessing task
-abbrev pub entriesOf : State → ℕ → Entries
-entriesOf s task = record {
+abbrev pub keptOf : State → ℕ → Kept
+keptOf s task = record {
   here = position task (numberNow s task);
   seen = seenOf s task;
   took = tookOf s task;
@@ -91,7 +91,7 @@ entriesOf s task = record {
 
 -- the plan over what the code gathers is the table's
 plan-table : (row : Row) (s : State) (task : ℕ) (l : Locality) →
-    planBy row l (entriesOf s task) (doneAt s (holderOf l)) (tookAt s (holderOf l)) ≡ planned row s task l
+    planBy row l (keptOf s task) (doneAt s (holderOf l)) (tookAt s (holderOf l)) ≡ planned row s task l
 unfolding planned localityAfter effectOf fewOf orderingsOf
 plan-table One s task l = refl
 plan-table Two s task l = refl
@@ -104,9 +104,9 @@ plan-table Eight s task l = refl
 plan-table Nine s task l = refl
 plan-table Ten s task l = refl
 
-pub plan-decided : (m : Marks) (l : Locality) (task : ℕ) (write : Bool) (row : Row) (holder : ℕ) (p : Plan) →
+pub plan-decided : (m : Counters) (l : Locality) (task : ℕ) (write : Bool) (row : Row) (holder : ℕ) (p : Plan) →
     row ≡ rowOf l task (seenOf (stateOf m) task) write → holder ≡ holderOf l →
-    p ≡ planBy row l (entriesOf (stateOf m) task) (doneAt (stateOf m) holder) (tookAt (stateOf m) holder) → p ≡ planFor m l task write
+    p ≡ planBy row l (keptOf (stateOf m) task) (doneAt (stateOf m) holder) (tookAt (stateOf m) holder) → p ≡ planFor m l task write
 unfolding planFor
 plan-decided m l task write row holder p e h q =
     q ∙ rw (e, h) (plan-table (rowOf l task (seenOf (stateOf m) task) write) (stateOf m) task l)

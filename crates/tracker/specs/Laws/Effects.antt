@@ -10,7 +10,7 @@ use Rattle.history.specs.History.{History, count}
 use Rattle.tracker.specs.State.{doneOf, seenOf, tookOf, localityOf}
 use Rattle.tracker.specs.Laws.State.{Shaped}
 use Rattle.tracker.specs.Row.{rowAt}
-use Rattle.tracker.specs.Next.{Effect, unchanged, effectOf, nextOf}
+use Rattle.tracker.specs.Next.{Effect, unchanged, effectOf, stateAfter}
 use Rattle.tracker.specs.Laws.After.{next-tasks, next-done, next-seen, next-took, next-last, other-done, other-seen, other-took}
 use Rattle.tracker.specs.Laws.Moves.{SeenMoves, seen-stays, LastMoves, last-stays, Moves}
 use Rattle.tracker.specs.declared.State.{State}
@@ -26,7 +26,7 @@ pub record Leaves (s : State) (task : ℕ) (effect : Effect) (after : State) : T
   pub other-took : (other : ℕ) → (other ≡ task → ⊥) → tookOf after other ≡ tookOf s other
 
 pub next-leaves : (s : State) (task object : ℕ) (write : Bool) → Shaped s → task < 16
-    → Leaves s task (effectOf (rowAt s task object write) s task (localityOf s object)) (nextOf s task object write)
+    → Leaves s task (effectOf (rowAt s task object write) s task (localityOf s object)) (stateAfter s task object write)
 next-leaves s task object write shaped low = record {
   tasks = next-tasks s task object write;
   done = next-done s task object write shaped low;

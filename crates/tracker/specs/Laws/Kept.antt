@@ -12,8 +12,8 @@ use Rattle.tracker.specs.State.{doneOf, seenOf, localityOf, owned}
 use Rattle.tracker.specs.Laws.State.{Shaped}
 use Rattle.tracker.specs.Row.{rowAt}
 use Rattle.tracker.specs.Laws.View.{View, one, two, three, four, five, six, seven, eight, nine, ten, view}
-use Rattle.tracker.specs.Next.{localityAfter, Effect, unchanged, effectOf, numberNow, stepped, nextOf}
-use Rattle.tracker.specs.Laws.Marks.{marksOf}
+use Rattle.tracker.specs.Next.{localityAfter, Effect, unchanged, effectOf, numberNow, stepped, stateAfter}
+use Rattle.tracker.specs.Laws.Counters.{countersOf}
 use Rattle.tracker.specs.Laws.Plan.{Admits}
 use Rattle.tracker.specs.Laws.Sum.{sum-rises, sum-bound}
 use Rattle.tracker.specs.Sound.{soundOf}
@@ -31,7 +31,7 @@ pub record Accepts (s : State) (task object : ℕ) : Type 0 where
   pub more : doneOf s task < 65535
 
 -- no index and no number of an accepted access is out of range
-pub sound-admits : (s : State) (task object : ℕ) → Sound s → Accepts s task object → Admits (marksOf s) (localityOf s object) task
+pub sound-admits : (s : State) (task object : ℕ) → Sound s → Accepts s task object → Admits (countersOf s) (localityOf s object) task
 sound-admits s task object f a = record {
   task-low = omega (arith, a .task-low, f .tasks-fit);
   holder-low = omega (arith, f .object object (a .object-low) .holder-low, f .tasks-fit);
@@ -181,13 +181,13 @@ module _ (s : State) (task : ℕ) (shaped : Shaped s) (sound : Sound s) (low : t
   row-keeps l write row b (ten share) = mine
 
 -- a sound state stays sound
-pub next-facts : (s : State) (task object : ℕ) (write : Bool) → Shaped s → Sound s → Accepts s task object → Sound (nextOf s task object write)
-unfolding nextOf
+pub next-facts : (s : State) (task object : ℕ) (write : Bool) → Shaped s → Sound s → Accepts s task object → Sound (stateAfter s task object write)
+unfolding stateAfter
 next-facts s task object write shaped f a =
     stepped-sound s task shaped f (a .task-low) object _ _ (a .object-low) (a .more)
     (row-keeps s task shaped f (a .task-low) (localityOf s object) write (rowAt s task object write) (f .object object (a .object-low))
     (view (localityOf s object) task (seenOf s task) write))
 
 pub next-sound : (s : State) (task object : ℕ) (write : Bool) → Shaped s → soundOf s ≡ true → Accepts s task object →
-    soundOf (nextOf s task object write) ≡ true
+    soundOf (stateAfter s task object write) ≡ true
 next-sound s task object write shaped e a = sound-test _ (next-facts s task object write shaped (sound-facts s e) a)

@@ -19,7 +19,7 @@ use Rattle.tracker.specs.State.{doneOf, seenOf, localityOf}
 use Rattle.tracker.specs.Row.{rowAt}
 use Rattle.tracker.specs.Laws.View.{view}
 use Rattle.tracker.specs.Orderings.{orderingsOf}
-use Rattle.tracker.specs.Next.{localityAfter, nextOf}
+use Rattle.tracker.specs.Next.{localityAfter, stateAfter}
 use Rattle.tracker.specs.Laws.After.{next-tasks, next-objects, next-shaped, next-done, next-locality, other-done, other-locality}
 use Rattle.tracker.specs.Laws.Kept.{Accepts, next-facts}
 use Rattle.tracker.specs.Laws.Named.{row-points}
@@ -30,7 +30,7 @@ use Rattle.tracker.specs.Laws.Moves.{untouched-stays}
 use Rattle.tracker.specs.Laws.Effects.{next-leaves}
 use Rattle.tracker.specs.Laws.Invariant.{Invariant}
 use Rattle.tracker.specs.Laws.EachRow.{conflicting, RowKeeps, row-keeps}
-use Rattle.tracker.specs.Laws.Accesses.{actOf, entryOf}
+use Rattle.tracker.specs.Laws.Accesses.{actOf, trackedEntry}
 use Rattle.tracker.specs.declared.State.{State}
 
 -- an access touches its object alone, writes only as a write, and conflicts as its sort does
@@ -48,10 +48,10 @@ conflicts-as object false value held a p = p
 
 module _ (s : State) (task object : ℕ) (write : Bool) (value held : ℕ) where
   abbrev entry : Entry
-  entry = entryOf s task object write value held
+  entry = trackedEntry s task object write value held
 
   abbrev after : State
-  after = nextOf s task object write
+  after = stateAfter s task object write
 
   -- the row's orderings, written or not
   abbrev full : List Position

@@ -5,26 +5,26 @@ use Prim.Native.Nat.{ℕ, _+_, _≤_, _<_, min}
 use native.Mathlib.Numerals.{add-one}
 use native.Mathlib.Omega.{arith}
 use Rattle.codec.specs.Laws.Decide.{passes, fails, split}
-use Rattle.tracker.specs.Laws.Marks.{marksOf}
+use Rattle.tracker.specs.Laws.Counters.{countersOf}
 use Rattle.codec.specs.Limit.{isWithin}
 use Rattle.codec.specs.Laws.Limit.{within-facts}
 use Rattle.tracker.specs.Range.{allBelow}
 use Rattle.tracker.specs.Laws.Range.{all-fails}
 use Rattle.tracker.specs.Sound.{lastSound, tasksSound, objectSoundAt, soundOf}
-use Rattle.tracker.specs.declared.Marks.{Marks}
+use Rattle.tracker.specs.declared.Counters.{Counters}
 use Rattle.tracker.specs.declared.State.{State}
 
 -- all but the objects
-unfoldable pub marksSound : Marks → Bool
-marksSound m =
+unfoldable pub countersSound : Counters → Bool
+countersSound m =
     isWithin 1 16 (m .tasks) && isWithin 1 256 (m .objects)
     && lastSound (m .last) (m .tasks) (m .shares) (m .done)
     && tasksSound (m .tasks) (m .shares) (m .done) (m .seen) (m .took)
 
 -- sound marks keep T and N in range
-pub marks-low : (m : Marks) → marksSound m ≡ true → (m .tasks ≤ 16) × (m .objects ≤ 256)
-unfolding marksSound
-marks-low m e =
+pub counters-low : (m : Counters) → countersSound m ≡ true → (m .tasks ≤ 16) × (m .objects ≤ 256)
+unfolding countersSound
+counters-low m e =
     let a = and-eq-true-iff (isWithin 1 16 (m .tasks) && isWithin 1 256 (m .objects) && lastSound (m .last) (m .tasks) (m .shares) (m .done)) _ .0 e .0 in
     let b = and-eq-true-iff (isWithin 1 16 (m .tasks)) (isWithin 1 256 (m .objects)) .0 (and-eq-true-iff (isWithin 1 16 (m .tasks) && isWithin 1 256 (m .objects)) _ .0 a .0) in
     (within-facts 1 16 _ (b .0) .1, within-facts 1 256 _ (b .1) .1)
@@ -32,11 +32,11 @@ marks-low m e =
 module _ (s : State) where
   -- what is found after n objects
   unfoldable pub soundTo : ℕ → Bool
-  soundTo n = marksSound (marksOf s) && allBelow (objectSoundAt s) n
+  soundTo n = countersSound (countersOf s) && allBelow (objectSoundAt s) n
 
-  pub scan-none : marksSound (marksOf s) ≡ soundTo 0
+  pub scan-none : countersSound (countersOf s) ≡ soundTo 0
   unfolding soundTo allBelow
-  scan-none = sym (and-true (marksSound (marksOf s)))
+  scan-none = sym (and-true (countersSound (countersOf s)))
 
   pub scan-more : (n : ℕ) → objectSoundAt s n ≡ true → soundTo n ≡ soundTo (n + 1)
   unfolding soundTo allBelow
@@ -44,21 +44,21 @@ module _ (s : State) where
 
   -- an object that is not sound ends the scan
   pub scan-bad : (n : ℕ) → n < s .objects → objectSoundAt s n ≡ false → soundOf s ≡ false
-  unfolding soundOf marksSound
-  scan-bad n h e = rw (all-fails (objectSoundAt s) (s .objects) n h e) (and-false (marksSound (marksOf s)))
+  unfolding soundOf countersSound
+  scan-bad n h e = rw (all-fails (objectSoundAt s) (s .objects) n h e) (and-false (countersSound (countersOf s)))
 
   -- all objects that have a record
   scan-all : soundTo (min (s .objects) 256) ≡ soundOf s
-  unfolding soundTo soundOf marksSound
-  scan-all = elim (split (marksSound (marksOf s))) [
-    | passes p ↦ ap (λ (n : ℕ). marksSound (marksOf s) && allBelow (objectSoundAt s) n) (omega (arith, marks-low (marksOf s) p .1))
+  unfolding soundTo soundOf countersSound
+  scan-all = elim (split (countersSound (countersOf s))) [
+    | passes p ↦ ap (λ (n : ℕ). countersSound (countersOf s) && allBelow (objectSoundAt s) n) (omega (arith, counters-low (countersOf s) p .1))
     | fails p ↦ rw p
   ]
 
   -- the scan goes up to a number that is told by the marks: what is below it has a record and is an object, and there the scan is over
-  module _ (m : Marks) (e : m ≡ marksOf s) (n : ℕ) (q : n ≡ min (m .objects) 256) where
+  module _ (m : Counters) (e : m ≡ countersOf s) (n : ℕ) (q : n ≡ min (m .objects) 256) where
     pub scan-low : (i : ℕ) → i < n → (i < 256) × (i < s .objects)
-    scan-low i h = let o = ap (λ (x : Marks). x .objects) e in (omega arith, omega arith)
+    scan-low i h = let o = ap (λ (x : Counters). x .objects) e in (omega arith, omega arith)
 
     pub scan-over : (i : ℕ) → i ≤ n → n ≤ i → soundTo i ≡ soundOf s
-    scan-over i h l = let o = ap (λ (x : Marks). x .objects) e in ap soundTo (omega arith) ∙ scan-all
+    scan-over i h l = let o = ap (λ (x : Counters). x .objects) e in ap soundTo (omega arith) ∙ scan-all

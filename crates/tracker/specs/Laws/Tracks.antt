@@ -14,14 +14,14 @@ use Rattle.history.specs.Laws.Memory.{reference-none}
 use Rattle.history.specs.Sound.{Sound as SoundHistory}
 use Rattle.history.specs.Laws.Sound.{sound-none, sound-more}
 use Rattle.tracker.specs.State.{doneOf}
-use Rattle.tracker.specs.Next.{nextOf}
+use Rattle.tracker.specs.Next.{stateAfter}
 use Rattle.tracker.specs.Opened.{openedState}
 use Rattle.tracker.specs.Laws.Opened.{Opens, opened-shaped, opened-objects, opened-done, opened-owner, opened-facts}
 use Rattle.tracker.specs.Laws.Kept.{Accepts}
 use Rattle.tracker.specs.Laws.Covers.{covers-none}
 use Rattle.tracker.specs.Laws.Covered.{write-exclusive}
 use Rattle.tracker.specs.Laws.Invariant.{Invariant}
-use Rattle.tracker.specs.Laws.Accesses.{actOf, entryOf, memoryAfter}
+use Rattle.tracker.specs.Laws.Accesses.{actOf, trackedEntry, memoryAfter}
 use Rattle.tracker.specs.Laws.OneAccess.{access-points-back, access-follows, access-keeps}
 use Rattle.tracker.specs.declared.State.{State}
 
@@ -29,7 +29,7 @@ use Rattle.tracker.specs.declared.State.{State}
 pub data Tracks (start : ℕ → ℕ) : State → (ℕ → ℕ) → History → Type 0 where
   tracks-opened : (tasks objects : ℕ) (owners : List ℕ) → Opens tasks objects owners → Tracks start (openedState tasks objects owners) start []
   tracks-more : {s : State} {memory : ℕ → ℕ} {h : History} (task object : ℕ) (write : Bool) (value : ℕ) → Tracks start s memory h → Accepts s task object
-      → Tracks start (nextOf s task object write) (memoryAfter memory object write value) (entryOf s task object write value (memory object) ∷ h)
+      → Tracks start (stateAfter s task object write) (memoryAfter memory object write value) (trackedEntry s task object write value (memory object) ∷ h)
 
 -- the invariant holds at the opening, and one accepted access keeps it
 pub tracks-invariant : {start : ℕ → ℕ} {s : State} {memory : ℕ → ℕ} {h : History} → Tracks start s memory h → Invariant s h
@@ -47,7 +47,7 @@ tracks-invariant (tracks-more {s = s} {memory = memory} task object write value 
 -- memories that agree before an access agree after it
 reference-after : (start : ℕ → ℕ) (h : History) (s : State) (memory : ℕ → ℕ) (task object : ℕ) (write : Bool) (value : ℕ) (c : ℕ)
     → memory c ≡ reference start h c
-    → memoryAfter memory object write value c ≡ reference start (entryOf s task object write value (memory object) ∷ h) c
+    → memoryAfter memory object write value c ≡ reference start (trackedEntry s task object write value (memory object) ∷ h) c
 unfolding reference
 reference-after start h s memory task object true value c same = rw same
 reference-after start h s memory task object false value c same = same

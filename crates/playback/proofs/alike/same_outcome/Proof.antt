@@ -11,8 +11,8 @@ use Rattle.playback.proofs.alike.same_outcome.Tie as tie
 parts : {x y : Comparison} → x ≡ y → (x .answer ≡ y .answer) × ((x .first ≡ y .first) × (x .second ≡ y .second))
 parts e = (ap (λ (o : Comparison). o .answer) e, (ap (λ (o : Comparison). o .first) e, ap (λ (o : Comparison). o .second) e))
 
-survey-requires : tie.Need-survey-requires
-survey-requires c κs = search needs
+locate-requires : tie.Need-locate-requires
+locate-requires c κs = search needs
 
 refused-requires : tie.Need-refused-requires
 refused-requires c κs = search needs
@@ -20,11 +20,11 @@ refused-requires c κs = search needs
 returns : tie.Need-returns
 returns c =
     let a = c .before .before .before .before .before .before .before .before .args in
-    let e = parts (first-away (now (a .first)) (now (a .second)) (now (a .first-memory)) (now (a .second-memory)) (c .before .before .before .survey .result) (c .before .before .before .survey .ensures) (c .before .if1 .taken)) in
+    let e = parts (first-away (now (a .first)) (now (a .second)) (now (a .first-memory)) (now (a .second-memory)) (c .before .before .before .locate .result) (c .before .before .before .locate .ensures) (c .before .if1 .taken)) in
     (c .refused .ensures ∙ e .0, e .1)
 
-survey-requires-2 : tie.Need-survey-requires-2
-survey-requires-2 c κs = search needs
+locate-requires-2 : tie.Need-locate-requires-2
+locate-requires-2 c κs = search needs
 
 refused-requires-2 : tie.Need-refused-requires-2
 refused-requires-2 c κs = search needs
@@ -32,7 +32,7 @@ refused-requires-2 c κs = search needs
 returns-2 : tie.Need-returns-2
 returns-2 c =
     let a = c .before .before .before .before .before .before .before .before .before .before .before .args in
-    let e = parts (second-away (now (a .first)) (now (a .second)) (now (a .first-memory)) (now (a .second-memory)) (c .before .before .before .before .before .before .survey .result) (c .before .before .before .before .before .before .survey .ensures) (c .before .before .before .survey2 .result) (c .before .before .before .before .if1 .left) (c .before .before .before .survey2 .ensures) (c .before .if2 .taken)) in
+    let e = parts (second-away (now (a .first)) (now (a .second)) (now (a .first-memory)) (now (a .second-memory)) (c .before .before .before .before .before .before .locate .result) (c .before .before .before .before .before .before .locate .ensures) (c .before .before .before .locate2 .result) (c .before .before .before .before .if1 .left) (c .before .before .before .locate2 .ensures) (c .before .if2 .taken)) in
     (c .refused2 .ensures ∙ e .0, e .1)
 
 refused-requires-3 : tie.Need-refused-requires-3
@@ -41,7 +41,7 @@ refused-requires-3 c κs = search needs
 returns-3 : tie.Need-returns-3
 returns-3 c =
     let a = c .before .before .before .before .before .before .before .before .before .before .before .before .before .args in
-    let e = parts (first-entries (now (a .first)) (now (a .second)) (now (a .first-memory)) (now (a .second-memory)) (c .before .before .before .before .before .before .before .before .survey .result) (c .before .before .before .before .before .before .before .before .survey .ensures) (c .before .before .before .before .before .survey2 .result) (c .before .before .before .before .before .before .if1 .left) (c .before .before .before .before .before .survey2 .ensures) (c .before .before .before .if2 .left) (c .before .if3 .taken)) in
+    let e = parts (first-entries (now (a .first)) (now (a .second)) (now (a .first-memory)) (now (a .second-memory)) (c .before .before .before .before .before .before .before .before .locate .result) (c .before .before .before .before .before .before .before .before .locate .ensures) (c .before .before .before .before .before .locate2 .result) (c .before .before .before .before .before .before .if1 .left) (c .before .before .before .before .before .locate2 .ensures) (c .before .before .before .if2 .left) (c .before .if3 .taken)) in
     (c .refused3 .ensures ∙ e .0, e .1)
 
 refused-requires-4 : tie.Need-refused-requires-4
@@ -50,11 +50,11 @@ refused-requires-4 c κs = search needs
 returns-4 : tie.Need-returns-4
 returns-4 c =
     let a = c .before .before .before .before .before .before .before .before .before .before .before .before .before .before .before .args in
-    let e = parts (second-entries (now (a .first)) (now (a .second)) (now (a .first-memory)) (now (a .second-memory)) (c .before .before .before .before .before .before .before .before .before .before .survey .result) (c .before .before .before .before .before .before .before .before .before .before .survey .ensures) (c .before .before .before .before .before .before .before .survey2 .result) (c .before .before .before .before .before .before .before .before .if1 .left) (c .before .before .before .before .before .before .before .survey2 .ensures) (c .before .before .before .before .before .if2 .left) (c .before .before .before .if3 .left) (c .before .if4 .taken)) in
+    let e = parts (second-entries (now (a .first)) (now (a .second)) (now (a .first-memory)) (now (a .second-memory)) (c .before .before .before .before .before .before .before .before .before .before .locate .result) (c .before .before .before .before .before .before .before .before .before .before .locate .ensures) (c .before .before .before .before .before .before .before .locate2 .result) (c .before .before .before .before .before .before .before .before .if1 .left) (c .before .before .before .before .before .before .before .locate2 .ensures) (c .before .before .before .before .before .if2 .left) (c .before .before .before .if3 .left) (c .before .if4 .taken)) in
     (c .refused4 .ensures ∙ e .0, e .1)
 
 compare-requires : tie.Need-compare-requires
-compare-requires c κs = ((c .before .before .before .before .before .before .before .before .before .before .before .survey .ensures, c .before .before .before .before .before .before .before .before .before .if1 .left, c .before .before .before .before .if3 .left), (c .before .before .before .before .before .before .before .before .survey2 .ensures, c .before .before .before .before .before .before .if2 .left, c .before .before .if4 .left))
+compare-requires c κs = ((c .before .before .before .before .before .before .before .before .before .before .before .locate .ensures, c .before .before .before .before .before .before .before .before .before .if1 .left, c .before .before .before .before .if3 .left), (c .before .before .before .before .before .before .before .before .locate2 .ensures, c .before .before .before .before .before .before .if2 .left, c .before .before .if4 .left))
 
 same-length : tie.Need-same-length
 same-length c = c .before .before .before .before .compare .kept .1 .1 .1 .1 .0
@@ -65,8 +65,8 @@ same-length-2 c = c .before .before .before .before .compare .kept .1 .1 .1 .1 .
 returns-5 : tie.Need-returns-5
 returns-5 c =
     let a = c .before .before .before .before .before .before .before .before .before .before .before .before .before .before .before .before .before .before .before .before .before .args in
-    let l = c .before .before .before .before .before .before .before .before .before .before .before .before .before .before .before .before .survey in
-    let k = c .before .before .before .before .before .before .before .before .before .before .before .before .before .survey2 in
+    let l = c .before .before .before .before .before .before .before .before .before .before .before .before .before .before .before .before .locate in
+    let k = c .before .before .before .before .before .before .before .before .before .before .before .before .before .locate2 in
     let r = c .before .before .before .before .compare in
     parts (both-ended (playOf (now (a .first)) (now (a .first-memory))) (playOf (now (a .second)) (now (a .second-memory))) (r .last .1 .1 .1 .1 .0) (r .last .1 .1 .1 .1 .1 .0) (r .result) (r .ensures .0) (r .ensures .1 .0) (r .ensures .1 .1)
     ∙ both-play (now (a .first)) (now (a .second)) (now (a .first-memory)) (now (a .second-memory)) (l .result) (l .ensures) (k .result) (c .before .before .before .before .before .before .before .before .before .before .before .before .before .before .if1 .left) (k .ensures) (c .before .before .before .before .before .before .before .before .before .before .before .if2 .left) (c .before .before .before .before .before .before .before .before .before .if3 .left) (c .before .before .before .before .before .before .before .if4 .left))
@@ -75,10 +75,10 @@ pub same-outcome-spec : {M : Type 1} → statement M
 same-outcome-spec =
     tie.close
     (tie.spec
-    survey-requires
+    locate-requires
     refused-requires
     returns
-    survey-requires-2
+    locate-requires-2
     refused-requires-2
     returns-2
     refused-requires-3

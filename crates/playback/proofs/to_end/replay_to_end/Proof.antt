@@ -10,15 +10,15 @@ use Rattle.playback.proofs.to_end.replay_to_end.Tie as tie
 parts : {x y : EndOutcome} → x ≡ y → (x .answer ≡ y .answer) × (x .memory ≡ y .memory)
 parts e = (ap (λ (o : EndOutcome). o .answer) e, ap (λ (o : EndOutcome). o .memory) e)
 
-survey-requires : tie.Need-survey-requires
-survey-requires c κs = search needs
+locate-requires : tie.Need-locate-requires
+locate-requires c κs = search needs
 
 refused-requires : tie.Need-refused-requires
 refused-requires c κs = search needs
 
 returns : tie.Need-returns
 returns c = let a = c .before .before .before .before .before .before .args in
-    let e = parts (end-bytes (now (a .bytes)) (now (a .memory)) (c .before .before .before .survey .result) (c .before .before .before .survey .ensures) (c .before .if1 .taken)) in
+    let e = parts (end-bytes (now (a .bytes)) (now (a .memory)) (c .before .before .before .locate .result) (c .before .before .before .locate .ensures) (c .before .if1 .taken)) in
     (c .refused .ensures ∙ e .0, e .1)
 
 refused-requires-2 : tie.Need-refused-requires-2
@@ -26,11 +26,11 @@ refused-requires-2 c κs = search needs
 
 returns-2 : tie.Need-returns-2
 returns-2 c = let a = c .before .before .before .before .before .before .before .before .args in
-    let e = parts (end-length (now (a .bytes)) (now (a .memory)) (c .before .before .before .before .before .survey .result) (c .before .before .before .before .before .survey .ensures) (c .before .before .before .if1 .left) (c .before .if2 .taken)) in
+    let e = parts (end-length (now (a .bytes)) (now (a .memory)) (c .before .before .before .before .before .locate .result) (c .before .before .before .before .before .locate .ensures) (c .before .before .before .if1 .left) (c .before .if2 .taken)) in
     (c .refused2 .ensures ∙ e .0, e .1)
 
 play-requires : tie.Need-play-requires
-play-requires c κs = (c .before .before .before .before .before .survey .ensures, c .before .before .before .if1 .left, c .before .if2 .left)
+play-requires c κs = (c .before .before .before .before .before .locate .ensures, c .before .before .before .if1 .left, c .before .if2 .left)
 
 same-length : tie.Need-same-length
 same-length c = c .before .before .play .kept .1 .1 .0
@@ -39,13 +39,13 @@ returns-3 : tie.Need-returns-3
 returns-3 c = let a = c .before .before .before .before .before .before .before .before .before .before .before .args in
     let p = c .before .before .play in
     parts (ends-so (playOf (now (a .bytes)) (now (a .memory))) (p .result) (p .last .1 .1 .0) (p .ensures .0) (p .ensures .1)
-    ∙ end-plays (now (a .bytes)) (now (a .memory)) (c .before .before .before .before .before .before .before .before .survey .result) (c .before .before .before .before .before .before .before .before .survey .ensures) (c .before .before .before .before .before .before .if1 .left) (c .before .before .before .before .if2 .left))
+    ∙ end-plays (now (a .bytes)) (now (a .memory)) (c .before .before .before .before .before .before .before .before .locate .result) (c .before .before .before .before .before .before .before .before .locate .ensures) (c .before .before .before .before .before .before .if1 .left) (c .before .before .before .before .if2 .left))
 
 pub replay-to-end-spec : {M : Type 1} → statement M
 replay-to-end-spec =
     tie.close
     (tie.spec
-    survey-requires
+    locate-requires
     refused-requires
     returns
     refused-requires-2

@@ -47,8 +47,8 @@ plain-requires-5 c κs = search needs
 enum-told-8 : tie.Need-enum-told-8
 enum-told-8 c = search needs
 
-take-requires : tie.Need-take-requires
-take-requires c κs = search needs
+hold-requires : tie.Need-hold-requires
+hold-requires c κs = search needs
 
 enum-told-9 : tie.Need-enum-told-9
 enum-told-9 c = search needs
@@ -84,7 +84,7 @@ returns-7 : tie.Need-returns-7
 returns-7 c = rw (c .before .enum-told7 .given .1) (c .plain5 .ensures)
 
 returns-8 : tie.Need-returns-8
-returns-8 c = rw (c .before .enum-told8 .given .1) (c .take .ensures)
+returns-8 c = rw (c .before .enum-told8 .given .1) (c .hold .ensures)
 
 returns-9 : tie.Need-returns-9
 returns-9 c = rw (c .before .enum-told9 .given .1) (c .plain6 .ensures)
@@ -111,7 +111,7 @@ by-row-spec =
     enum-told-7
     plain-requires-5
     enum-told-8
-    take-requires
+    hold-requires
     enum-told-9
     plain-requires-6
     enum-told-10

@@ -1,6 +1,6 @@
 use native.Mathlib.Omega.{arith}
 use Rattle.text.specs.Laws.Appended.{joined}
-use Rattle.transcript.specs.Lines.{endOf}
+use Rattle.transcript.specs.Lines.{endLine}
 use Rattle.transcript.specs.Laws.Lines.{end-length, stuck-length}
 use borrow.Author.Needs.{needs}
 use Rattle.transcript.proofs.lines.put_end.Statement.{statement}
@@ -19,7 +19,7 @@ same-length : tie.Need-same-length
 same-length c = search needs
 
 returns : tie.Need-returns
-unfolding endOf
+unfolding endLine
 returns c = rw (c .before .before .before .before .before .before .before .before .before .if1 .taken) (joined (c .before .before .before .before .before .before .put-bytes .ensures) (c .before .before .put-field .ensures))
 
 slice-aggregate-put-bytes-2 : tie.Need-slice-aggregate-put-bytes-2
@@ -35,7 +35,7 @@ same-length-2 : tie.Need-same-length-2
 same-length-2 c = search needs
 
 returns-2 : tie.Need-returns-2
-unfolding endOf
+unfolding endLine
 returns-2 c = rw (c .before .before .before .before .before .before .before .before .before .if1 .left) (joined (c .before .before .before .before .before .before .put-bytes2 .ensures) (c .before .before .put-field2 .ensures))
 
 pub put-end-spec : {M : Type 1} → statement M

@@ -1,0 +1,133 @@
+// What a step does: the tests before the bytes, the access on the memory, the run's move, and the answers.
+ghost use mathlib.Core.Path.{_≡_};
+ghost use Prim.Native.Nat.{_+_, _<_};
+ghost use Rattle.replayer.specs.Run.{taskAt, doneOf, movedOf};
+ghost use Rattle.replayer.specs.Memory.{valueOf, performed};
+ghost use Rattle.replayer.specs.StepOf.{refusedStep, earlyNumber, onNext};
+ghost use Rattle.replayer.specs.Laws.StepOf.{lateRefusal};
+use crate::Run;
+use crate::Stepped;
+use crate::TaskRun;
+use crate::next::Next;
+use crate::sound::sound;
+use codec::Op;
+use codec::kind::writes;
+use codec::number::ENTRIES;
+use codec::number::FINISHED;
+use codec::number::HELD;
+use codec::number::NO_TASK;
+use codec::number::UNSOUND;
+use reader::Checked;
+
+// 17, 3, 5, 15, or 0 where none of them applies.
+pub(crate) fn early_number(run: Run, size: usize, entries: usize, task: usize) -> u32
+    ensures { λ r. ⌜ r ≡ earlyNumber run size entries task ⌝ }
+{
+    if !sound(run, size) {
+        return UNSOUND;
+    }
+    if entries != run.objects {
+        return ENTRIES;
+    }
+    if run.tasks <= task {
+        return NO_TASK;
+    }
+    let x = run.runs[task];
+    if x.count <= x.done {
+        return FINISHED;
+    }
+    0
+}
+
+pub(crate) fn refused(run: Run, number: u32, offset: usize) -> Stepped
+    ensures { λ r. ⌜ r ≡ refusedStep run number offset ⌝ }
+{
+    Stepped {
+        number,
+        offset,
+        kind: 0,
+        object: 0,
+        value: 0,
+        access: 0,
+        run,
+    }
+}
+
+// Why an access is not done: the reader's number and offset, 16, or 0 where nothing holds it.
+pub(crate) fn late_refusal(n: Next) -> Checked
+    ensures { λ r. ⌜ r ≡ lateRefusal n ⌝ }
+{
+    match n {
+        Next::Open { op: _, next: _ } => Checked {
+            number: 0,
+            offset: 0,
+        },
+        Next::Held => Checked {
+            number: HELD,
+            offset: 0,
+        },
+        Next::Refused(c) => c,
+    }
+}
+
+// A read gives the memory's value, a write stores and gives its own. Past the memory's end nothing is stored, and 0 stands there.
+pub fn perform(op: Op, memory: &mut [u32]) -> u32
+    ensures { λ r. ⌜ r ≡ valueOf op (now (memory .entry)) ⌝ }
+    ensures { λ r. ⌜ now (memory .exit) ≡ performed op (now (memory .entry)) ⌝ }
+{
+    let o = op.object as usize;
+    let value = op.value;
+    if writes(op.kind) {
+        if o < memory.len() {
+            memory[o] = value;
+        }
+        return value;
+    }
+    if o < memory.len() {
+        return memory[o];
+    }
+    0
+}
+
+// The task goes on to a place, with one more access done, `access` in all; no other task moves.
+fn moved(run: Run, task: usize, next: usize, access: usize) -> Run
+    requires { ⌜ (task < 16) × (access ≡ doneOf (run .runs) task + 1) ⌝ }
+    ensures { λ r. ⌜ r ≡ movedOf run task next ⌝ }
+{
+    let mut runs = run.runs;
+    let x = runs[task];
+    let y = TaskRun {
+        place: next,
+        end: x.end,
+        done: access,
+        count: x.count,
+    };
+    runs[task] = y;
+    Run {
+        tasks: run.tasks,
+        objects: run.objects,
+        runs,
+    }
+}
+
+// A step that is taken: the access done on the memory, the run moved on, and the answer.
+pub(crate) fn taken(run: Run, memory: &mut [u32], task: usize, op: Op, next: usize) -> Stepped
+    requires { ⌜ (task < 16) × (taskAt (run .runs) task .done < taskAt (run .runs) task .count) ⌝ }
+    ensures { λ r. ⌜ r ≡ onNext run (now (memory .entry)) task (Next.Open op next) .answer ⌝ }
+    ensures { λ r. ⌜ now (memory .exit) ≡ onNext run (now (memory .entry)) task (Next.Open op next) .memory ⌝ }
+{
+    let x = run.runs[task];
+    let access = x.done + 1;
+    let value = perform(op, memory);
+    let object = op.object as usize;
+    let after = moved(run, task, next, access);
+    Stepped {
+        number: 0,
+        offset: 0,
+        kind: op.kind,
+        object,
+        value,
+        access,
+        run: after,
+    }
+}
