@@ -6,6 +6,7 @@ use Prim.Native.Nat.{ℕ, _+_}
 use lib.Dec.{eqb}
 use lib.ListN.{getD}
 use Rattle.codec.specs.Store.{store}
+use Rattle.codec.specs.Limit.{maxTasks, maxObjects}
 use Rattle.tracker.specs.declared.Locality.{Locality}
 use Rattle.tracker.specs.declared.Locality.the-variants.{WriteExclusive, ReadExclusive, ReadShared}
 use Rattle.tracker.specs.declared.ObjectRecord.{ObjectRecord}
@@ -25,14 +26,14 @@ recordIn halves words i = recordOf (getD halves (36 + i) 0) (getD halves (292 + 
 
 -- 16 entries from a place on
 abbrev pub entriesIn : List ℕ → ℕ → List ℕ
-entriesIn l at = each (λ (t : ℕ). getD l (at + t) 0) 16
+entriesIn l at = each (λ (t : ℕ). getD l (at + t) 0) maxTasks
 
 -- the state that a pair of arrays means
 abbrev pub stateIn : List ℕ → List ℕ → State
 stateIn halves words = record {
   tasks = getD halves 0 0;
   objects = getD halves 1 0;
-  records = each (recordIn halves words) 256;
+  records = each (recordIn halves words) maxObjects;
   done = entriesIn halves 4;
   seen = entriesIn words 1;
   took = entriesIn halves 20;
@@ -66,10 +67,10 @@ firstOf l n = each (λ (t : ℕ). getD l t 0) n
 abbrev pub halvesOf : State → List ℕ
 halvesOf s =
     s .tasks ∷ s .objects ∷ s .last .task ∷ s .last .number
-    ∷ (firstOf (s .done) 16 ++ (firstOf (s .took) 16 ++ (casesOf (s .records) 256 ++ holdersOf (s .records) 256)))
+    ∷ (firstOf (s .done) maxTasks ++ (firstOf (s .took) maxTasks ++ (casesOf (s .records) maxObjects ++ holdersOf (s .records) maxObjects)))
 
 abbrev pub wordsOf : State → List ℕ
-wordsOf s = s .shares ∷ (firstOf (s .seen) 16 ++ sharesOf (s .records) 256)
+wordsOf s = s .shares ∷ (firstOf (s .seen) maxTasks ++ sharesOf (s .records) maxObjects)
 
 -- an array after a call that moves the state: a refused one leaves it, whatever numbers without a meaning it holds
 unfoldable pub movedTo : ℕ → List ℕ → List ℕ → List ℕ

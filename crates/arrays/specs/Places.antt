@@ -2,6 +2,7 @@
 use mathlib.Core.List.{List, [], _∷_, _++_}
 use Prim.Native.Nat.{ℕ, zero, suc, _+_, _*_}
 use lib.ListN.{getD}
+use Rattle.codec.specs.Limit.{maxTasks}
 use Rattle.replayer.specs.declared.TaskRun.{TaskRun}
 use Rattle.replayer.specs.declared.Run.{Run}
 use Rattle.replayer.specs.Run.{taskAt}
@@ -17,7 +18,7 @@ taskIn places t = record {
 }
 
 abbrev pub runIn : List ℕ → Run
-runIn places = record { tasks = getD places 0 0; objects = getD places 1 0; runs = each (taskIn places) 16 }
+runIn places = record { tasks = getD places 0 0; objects = getD places 1 0; runs = each (taskIn places) maxTasks }
 
 -- the numbers that a run is stored as, first those of its first n tasks
 abbrev pub taskPlaces : TaskRun → List ℕ
@@ -28,4 +29,4 @@ firstPlaces runs zero = []
 firstPlaces runs (suc n) = firstPlaces runs n ++ taskPlaces (taskAt runs n)
 
 abbrev pub placesOf : Run → List ℕ
-placesOf r = r .tasks ∷ r .objects ∷ firstPlaces (r .runs) 16
+placesOf r = r .tasks ∷ r .objects ∷ firstPlaces (r .runs) maxTasks

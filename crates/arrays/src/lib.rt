@@ -5,15 +5,18 @@
 // A run's places are T and N, then for each task its place, end, done and count.
 ghost use mathlib.Core.Path.{_≡_};
 ghost use Rattle.codec.specs.Store.{store};
+ghost use Rattle.codec.specs.Limit.{maxTasks, maxObjects};
 ghost use Rattle.tracker.specs.Laws.Counters.{countersOf};
 ghost use Rattle.replayer.specs.Each.{each};
 ghost use Rattle.arrays.specs.Halves.{recordOf, recordIn, stateIn, caseOf, casesOf, holdersOf, sharesOf, firstOf, halvesOf, wordsOf};
 ghost use Rattle.arrays.specs.Places.{runIn, placesOf};
 use codec::Position;
+use codec::limit::OBJECTS;
+use codec::limit::TASKS;
 use replayer::Run;
 use replayer::TaskRun;
-use tracker::Locality;
 use tracker::Counters;
+use tracker::Locality;
 use tracker::ObjectRecord;
 use tracker::State;
 use tracker::advance::holder_of;
@@ -32,11 +35,11 @@ fn record_of(case: u16, task: u16, share: u32) -> ObjectRecord
     ObjectRecord { locality }
 }
 
-fn records_of(halves: &[u16; 548], words: &[u32; 273]) -> [ObjectRecord; 256]
-    ensures { λ r. ⌜ r ≡ each (recordIn (now (halves .entry)) (now (words .entry))) 256 ⌝ }
+fn records_of(halves: &[u16; 548], words: &[u32; 273]) -> [ObjectRecord; OBJECTS]
+    ensures { λ r. ⌜ r ≡ each (recordIn (now (halves .entry)) (now (words .entry))) maxObjects ⌝ }
 {
     let blank = record_of(0, 0, 0);
-    let mut records = [blank; 256];
+    let mut records = [blank; OBJECTS];
     for i in 0..256 {
         let record = record_of(halves[36 + i], halves[292 + i], words[17 + i]);
         records[i] = record;
@@ -48,9 +51,9 @@ fn records_of(halves: &[u16; 548], words: &[u32; 273]) -> [ObjectRecord; 256]
 fn counters_of(halves: &[u16; 548], words: &[u32; 273]) -> Counters
     ensures { λ r. ⌜ r ≡ countersOf (stateIn (now (halves .entry)) (now (words .entry))) ⌝ }
 {
-    let mut done = [0u16; 16];
-    let mut seen = [0u32; 16];
-    let mut took = [0u16; 16];
+    let mut done = [0u16; TASKS];
+    let mut seen = [0u32; TASKS];
+    let mut took = [0u16; TASKS];
     for t in 0..16 {
         done[t] = halves[4 + t];
         seen[t] = words[1 + t];
@@ -102,9 +105,9 @@ fn case_of(locality: Locality) -> u16
     }
 }
 
-fn put_records(records: [ObjectRecord; 256], halves: &mut [u16; 548], words: &mut [u32; 273])
-    ensures { λ _. ⌜ now (halves .exit) ≡ store (store (now (halves .entry)) 36 (casesOf records 256)) 292 (holdersOf records 256) ⌝ }
-    ensures { λ _. ⌜ now (words .exit) ≡ store (now (words .entry)) 17 (sharesOf records 256) ⌝ }
+fn put_records(records: [ObjectRecord; OBJECTS], halves: &mut [u16; 548], words: &mut [u32; 273])
+    ensures { λ _. ⌜ now (halves .exit) ≡ store (store (now (halves .entry)) 36 (casesOf records maxObjects)) 292 (holdersOf records maxObjects) ⌝ }
+    ensures { λ _. ⌜ now (words .exit) ≡ store (now (words .entry)) 17 (sharesOf records maxObjects) ⌝ }
 {
     for i in 0..256 {
         let record = records[i];
@@ -116,14 +119,14 @@ fn put_records(records: [ObjectRecord; 256], halves: &mut [u16; 548], words: &mu
 }
 
 fn put_tasks(
-    done: [u16; 16],
-    seen: [u32; 16],
-    took: [u16; 16],
+    done: [u16; TASKS],
+    seen: [u32; TASKS],
+    took: [u16; TASKS],
     halves: &mut [u16; 548],
     words: &mut [u32; 273],
 )
-    ensures { λ _. ⌜ now (halves .exit) ≡ store (store (now (halves .entry)) 4 (firstOf done 16)) 20 (firstOf took 16) ⌝ }
-    ensures { λ _. ⌜ now (words .exit) ≡ store (now (words .entry)) 1 (firstOf seen 16) ⌝ }
+    ensures { λ _. ⌜ now (halves .exit) ≡ store (store (now (halves .entry)) 4 (firstOf done maxTasks)) 20 (firstOf took maxTasks) ⌝ }
+    ensures { λ _. ⌜ now (words .exit) ≡ store (now (words .entry)) 1 (firstOf seen maxTasks) ⌝ }
 {
     for t in 0..16 {
         halves[4 + t] = done[t];
@@ -159,7 +162,7 @@ pub fn run_of(places: &[usize; 66]) -> Run
         done: 0,
         count: 0,
     };
-    let mut runs = [blank; 16];
+    let mut runs = [blank; TASKS];
     for t in 0..16 {
         let x = TaskRun {
             place: places[2 + 4 * t],

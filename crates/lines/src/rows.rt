@@ -4,12 +4,14 @@ ghost use mathlib.Core.Path.{_≡_};
 ghost use Prim.Native.Nat.{_≤_};
 ghost use lib.ListN.{length};
 ghost use Rattle.codec.specs.Store.{store};
+ghost use Rattle.codec.specs.Limit.{maxObjects};
 ghost use Rattle.reader.specs.Parse.{allBelow};
 ghost use Rattle.lines.specs.Fields.{fieldsOf};
 ghost use Rattle.lines.specs.Number.{none};
 ghost use Rattle.lines.specs.Rows.{isRow, sizesOf, ownerOf, ownersOf};
 use crate::words::NONE;
 use crate::words::fields;
+use codec::limit::OBJECTS;
 
 // T and N as a line gives them; not good where the line is malformed.
 pub struct Sizes {
@@ -92,12 +94,12 @@ fn set_starts(row: &[u64], starts: &mut [u32])
 
 // The owners' line. Answers whether it is a number for each owner.
 pub fn read_owners(line: &[u8], owners: &mut [u8]) -> bool
-    requires { ⌜ (length (now line) ≤ 1048576) × (length (now owners) ≤ 256) ⌝ }
+    requires { ⌜ (length (now line) ≤ 1048576) × (length (now owners) ≤ maxObjects) ⌝ }
     ensures { λ r. ⌜ r ≡ isRow (length (now (owners .entry))) (fieldsOf (now (line .entry))) ⌝ }
     ensures { λ r. ⌜ (r ≡ true → now (owners .exit) ≡ ownersOf (fieldsOf (now (line .entry)))) ⌝ }
 {
     let n = owners.len();
-    let mut row = [0u64; 256];
+    let mut row = [0u64; OBJECTS];
     if !is_row(line, n, &mut row) {
         return false;
     }
@@ -107,12 +109,12 @@ pub fn read_owners(line: &[u8], owners: &mut [u8]) -> bool
 
 // The starting values' line. Answers whether it is a number for each value.
 pub fn read_starts(line: &[u8], starts: &mut [u32]) -> bool
-    requires { ⌜ (length (now line) ≤ 1048576) × (length (now starts) ≤ 256) ⌝ }
+    requires { ⌜ (length (now line) ≤ 1048576) × (length (now starts) ≤ maxObjects) ⌝ }
     ensures { λ r. ⌜ r ≡ isRow (length (now (starts .entry))) (fieldsOf (now (line .entry))) ⌝ }
     ensures { λ r. ⌜ (r ≡ true → now (starts .exit) ≡ fieldsOf (now (line .entry))) ⌝ }
 {
     let n = starts.len();
-    let mut row = [0u64; 256];
+    let mut row = [0u64; OBJECTS];
     if !is_row(line, n, &mut row) {
         return false;
     }

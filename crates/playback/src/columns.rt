@@ -1,22 +1,23 @@
 // A run as columns: of each field of its tasks one array, which is lent where a run by value would be copied.
 ghost use mathlib.Core.Path.{_≡_};
 ghost use Rattle.playback.specs.Laws.Columns.{columnsOf};
+use codec::limit::TASKS;
 use replayer::Run;
 
 pub(crate) struct Columns {
-    pub places: [usize; 16],
-    pub ends: [usize; 16],
-    pub dones: [usize; 16],
-    pub counts: [usize; 16],
+    pub places: [usize; TASKS],
+    pub ends: [usize; TASKS],
+    pub dones: [usize; TASKS],
+    pub counts: [usize; TASKS],
 }
 
 pub(crate) fn columns_of(run: Run) -> Columns
     ensures { λ r. ⌜ r ≡ columnsOf run ⌝ }
 {
-    let mut places = [0usize; 16];
-    let mut ends = [0usize; 16];
-    let mut dones = [0usize; 16];
-    let mut counts = [0usize; 16];
+    let mut places = [0usize; TASKS];
+    let mut ends = [0usize; TASKS];
+    let mut dones = [0usize; TASKS];
+    let mut counts = [0usize; TASKS];
     for t in 0..16 {
         let x = run.runs[t];
         places[t] = x.place;

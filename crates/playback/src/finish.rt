@@ -11,8 +11,8 @@ use codec::limit::TASKS;
 use codec::limit::least;
 use codec::number::UNSOUND;
 use replayer::Run;
-use replayer::stepping::perform;
 use replayer::sound::sound;
+use replayer::stepping::perform;
 
 // Whether a run has finished; 17 and no for one that is not sound.
 pub struct Completion {
@@ -41,8 +41,8 @@ pub(crate) fn finish(run: Run, bytes: &[u8], memory: &mut [u32]) -> Played
     let ends = c.ends;
     let mut dones = c.dones;
     let counts = c.counts;
-    let mut scans = [0usize; 16];
-    let mut ats = [0usize; 16];
+    let mut scans = [0usize; TASKS];
+    let mut ats = [0usize; TASKS];
     let mut steps: usize = 0;
     loop {
         let n = lowest(
@@ -70,7 +70,7 @@ pub(crate) fn finish(run: Run, bytes: &[u8], memory: &mut [u32]) -> Played
 }
 
 // Whether no task has accesses left.
-fn all_done(tasks: usize, dones: &[usize; 16], counts: &[usize; 16]) -> bool
+fn all_done(tasks: usize, dones: &[usize; TASKS], counts: &[usize; TASKS]) -> bool
     ensures { λ r. ⌜ r ≡ allDoneOf tasks (now (dones .entry)) (now (counts .entry)) ⌝ }
 {
     let few = least(tasks, TASKS);

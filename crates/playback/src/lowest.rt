@@ -5,6 +5,7 @@ ghost use Rattle.playback.specs.Laws.ColumnsCode.{Columned};
 ghost use Rattle.playback.specs.Laws.Lowest.{lowestOf, afterOf};
 use crate::visit::visit;
 use codec::Op;
+use codec::limit::TASKS;
 use reader::Limits;
 use replayer::TaskRun;
 use replayer::next::Next;
@@ -21,12 +22,12 @@ pub(crate) fn lowest(
     tasks: usize,
     objects: usize,
     bytes: &[u8],
-    places: &mut [usize; 16],
-    ends: &[usize; 16],
-    dones: &mut [usize; 16],
-    counts: &[usize; 16],
-    scans: &mut [usize; 16],
-    ats: &mut [usize; 16],
+    places: &mut [usize; TASKS],
+    ends: &[usize; TASKS],
+    dones: &mut [usize; TASKS],
+    counts: &[usize; TASKS],
+    scans: &mut [usize; TASKS],
+    ats: &mut [usize; TASKS],
 ) -> NextStep
     requires { ⌜ Columned (now bytes) tasks objects (now places) (now ends) (now dones) (now counts) (now scans) (now ats) ⌝ }
     ensures { λ r. ⌜ r ≡ lowestOf (runOf tasks objects (now (places .entry)) (now (ends .entry)) (now (dones .entry)) (now (counts .entry))) (now (bytes .entry)) ⌝ }

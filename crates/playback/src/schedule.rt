@@ -6,6 +6,7 @@ ghost use Rattle.playback.specs.Schedule.{scheduleFrom};
 use crate::columns::columns_of;
 use crate::lowest::NextStep;
 use crate::lowest::lowest;
+use codec::limit::TASKS;
 use replayer::Run;
 use replayer::sound::sound;
 
@@ -22,8 +23,8 @@ pub fn schedule(run: Run, bytes: &[u8], out: &mut [u8]) -> usize
     let ends = c.ends;
     let mut dones = c.dones;
     let counts = c.counts;
-    let mut scans = [0usize; 16];
-    let mut ats = [0usize; 16];
+    let mut scans = [0usize; TASKS];
+    let mut ats = [0usize; TASKS];
     let mut steps: usize = 0;
     while steps < out.len() {
         let n = lowest(

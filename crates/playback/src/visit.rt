@@ -2,9 +2,11 @@
 // no ordering is read again once it is met.
 ghost use Prim.Native.Nat.{_≤_, _<_};
 ghost use lib.ListN.{length, getD};
+ghost use Rattle.codec.specs.Limit.{maxTasks};
 ghost use Rattle.replayer.specs.declared.Run.{Run};
 ghost use Rattle.replayer.specs.Laws.Look.{OneTask};
 ghost use Rattle.playback.specs.Laws.Visit.{Note, Noted, Visited};
+use codec::limit::TASKS;
 use reader::Limits;
 use replayer::TaskRun;
 use replayer::next::Next;
@@ -17,11 +19,11 @@ pub(crate) fn visit(
     x: TaskRun,
     bytes: &[u8],
     limits: Limits,
-    dones: &[usize; 16],
-    scans: &mut [usize; 16],
-    ats: &mut [usize; 16],
+    dones: &[usize; TASKS],
+    scans: &mut [usize; TASKS],
+    ats: &mut [usize; TASKS],
 ) -> Next
-    requires { ⌜ (limits .tasks ≤ 16) × (limits .own < 16) × (x .end ≤ length (now bytes)) ⌝ }
+    requires { ⌜ (limits .tasks ≤ maxTasks) × (limits .own < maxTasks) × (x .end ≤ length (now bytes)) ⌝ }
     requires { ⌜ Note limits (now bytes) (now dones) x (getD (now scans) (limits .own) 0) (getD (now ats) (limits .own) 0) ⌝ }
     ensures { λ r. ⌜ ((run : Run) → OneTask run (limits .own) x limits (now (dones .entry))
         → Noted run (now (bytes .entry)) (now (scans .entry)) (now (ats .entry))

@@ -2,6 +2,7 @@
 ghost use mathlib.Core.Path.{_≡_};
 ghost use Prim.Native.Nat.{_≤_};
 ghost use lib.ListN.{length};
+ghost use Rattle.codec.specs.Limit.{maxObjects};
 ghost use Rattle.reader.specs.Parse.{allBelow};
 ghost use Rattle.tracker.specs.Opened.{ownedRecords};
 ghost use Rattle.recorder.specs.OpenOf.{entriesOk, openNumber};
@@ -10,9 +11,9 @@ use codec::limit::OBJECTS;
 use codec::limit::TASKS;
 use codec::limit::within;
 use codec::number::ENTRIES;
+use codec::number::NO_ROOM;
 use codec::number::OBJECT_RANGE;
 use codec::number::OWNER_RANGE;
-use codec::number::NO_ROOM;
 use codec::number::TASK_RANGE;
 use tracker::Locality;
 use tracker::ObjectRecord;
@@ -72,13 +73,13 @@ pub(crate) fn open_number(
 }
 
 // Each object write-exclusive of its owner.
-pub(crate) fn owned_records(owners: &[u8]) -> [ObjectRecord; 256]
-    requires { ⌜ length (now owners) ≤ 256 ⌝ }
+pub(crate) fn owned_records(owners: &[u8]) -> [ObjectRecord; OBJECTS]
+    requires { ⌜ length (now owners) ≤ maxObjects ⌝ }
     ensures { λ r. ⌜ r ≡ ownedRecords (now (owners .entry)) (length (now (owners .entry))) ⌝ }
 {
     let first = Locality::WriteExclusive(0);
     let blank = ObjectRecord { locality: first };
-    let mut records = [blank; 256];
+    let mut records = [blank; OBJECTS];
     for i in 0..owners.len() {
         let locality = Locality::WriteExclusive(owners[i] as u16);
         let record = ObjectRecord { locality };

@@ -3,6 +3,7 @@ use mathlib.Core.Path.{_≡_}
 use mathlib.Core.List.{List}
 use Prim.Native.Nat.{ℕ, _+_, _*_, _≤_, _<_}
 use lib.ListN.{length, getD}
+use Rattle.codec.specs.Limit.{maxTasks}
 use Rattle.reader.specs.declared.Limits.{Limits}
 use Rattle.reader.specs.Reading.{read}
 use Rattle.reader.specs.Recording.{Entry}
@@ -15,12 +16,12 @@ use Rattle.replayer.specs.Run.{doneOf}
 
 -- each task has done so many accesses or more
 abbrev pub DoneAll : List ℕ → List TaskRun → Type 0
-DoneAll dones runs = (s : ℕ) → s < 16 → getD dones s 0 ≤ doneOf runs s
+DoneAll dones runs = (s : ℕ) → s < maxTasks → getD dones s 0 ≤ doneOf runs s
 
 -- a group, whose access's record stands at `at`, with all orderings before a place met: its rest is judged as the whole, whatever more is
 -- done
 pub record Ahead (m : Limits) (b dones : List ℕ) (from end place at : ℕ) : Type 0 where
-  pub few : m .tasks ≤ 16
+  pub few : m .tasks ≤ maxTasks
   pub within : end ≤ length b
   pub entry : Entry
   pub reads : groupAt m b place end ≡ read entry

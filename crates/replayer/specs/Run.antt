@@ -2,6 +2,7 @@
 use Prim.Native.Nat.{ℕ, _+_}
 use mathlib.Core.List.{List}
 use lib.ListN.{getD, set, replicate}
+use Rattle.codec.specs.Limit.{maxTasks}
 use Rattle.reader.specs.declared.Limits.{Limits}
 use Rattle.replayer.specs.declared.TaskRun.{TaskRun}
 use Rattle.replayer.specs.declared.Run.{Run}
@@ -10,7 +11,7 @@ abbrev pub blankTask : TaskRun
 blankTask = record { place = 0; end = 0; done = 0; count = 0 }
 
 abbrev pub blankTasks : List TaskRun
-blankTasks = replicate 16 blankTask
+blankTasks = replicate maxTasks blankTask
 
 -- the blank run, all zero
 abbrev pub blankRun : Run

@@ -2,6 +2,7 @@
 ghost use mathlib.Core.Path.{_≡_};
 ghost use Prim.Native.Nat.{_≤_, _<_};
 ghost use lib.ListN.{length};
+ghost use Rattle.codec.specs.Limit.{maxTasks};
 ghost use Rattle.replayer.specs.Run.{taskAt};
 ghost use Rattle.replayer.specs.Dones.{donesOf};
 ghost use Rattle.replayer.specs.NextTurn.{InGroup, Scanned, Looked};
@@ -11,6 +12,7 @@ use crate::Run;
 use codec::Op;
 use codec::kind::ORDERING;
 use codec::kind::length_of;
+use codec::limit::TASKS;
 use reader::Checked;
 use reader::Limits;
 use reader::entry::Found;
@@ -52,7 +54,7 @@ pub(crate) fn refusal(f: Found) -> Checked
 
 // The place of the first ordering from a place on that is not met, or the place of the access's record. Up to that record there are
 // orderings, of which the source and the number are all that is looked at.
-pub fn first_unmet(bytes: &[u8], from: usize, at: usize, dones: &[usize; 16]) -> usize
+pub fn first_unmet(bytes: &[u8], from: usize, at: usize, dones: &[usize; TASKS]) -> usize
     requires { ⌜ InGroup (now bytes) (now dones) from at ⌝ }
     ensures { λ r. ⌜ Scanned (now (bytes .entry)) (now (dones .entry)) from at r ⌝ }
 {
@@ -69,8 +71,14 @@ pub fn first_unmet(bytes: &[u8], from: usize, at: usize, dones: &[usize; 16]) ->
 }
 
 // The group from a place up to a body's end, held to the counts done. All of it is read before an ordering is judged.
-pub fn look_at(bytes: &[u8], from: usize, end: usize, limits: Limits, dones: &[usize; 16]) -> Look
-    requires { ⌜ (limits .tasks ≤ 16) × (end ≤ length (now bytes)) ⌝ }
+pub fn look_at(
+    bytes: &[u8],
+    from: usize,
+    end: usize,
+    limits: Limits,
+    dones: &[usize; TASKS],
+) -> Look
+    requires { ⌜ (limits .tasks ≤ maxTasks) × (end ≤ length (now bytes)) ⌝ }
     ensures { λ r. ⌜ Looked limits (now (bytes .entry)) (now (dones .entry)) from end r ⌝ }
 {
     let f = entry_at(bytes, from, end, limits);
@@ -98,10 +106,10 @@ pub fn look_at(bytes: &[u8], from: usize, end: usize, limits: Limits, dones: &[u
 }
 
 // The counts done, one for each task.
-pub(crate) fn dones_of(run: Run) -> [usize; 16]
+pub(crate) fn dones_of(run: Run) -> [usize; TASKS]
     ensures { λ r. ⌜ r ≡ donesOf (run .runs) ⌝ }
 {
-    let mut dones = [0usize; 16];
+    let mut dones = [0usize; TASKS];
     for t in 0..16 {
         let x = run.runs[t];
         dones[t] = x.done;
@@ -111,7 +119,7 @@ pub(crate) fn dones_of(run: Run) -> [usize; 16]
 
 // The next group of a task, with T and N of the run.
 pub(crate) fn next_of(run: Run, bytes: &[u8], task: usize) -> Next
-    requires { ⌜ (run .tasks ≤ 16) × (task < 16) × (taskAt (run .runs) task .end ≤ length (now bytes)) ⌝ }
+    requires { ⌜ (run .tasks ≤ maxTasks) × (task < maxTasks) × (taskAt (run .runs) task .end ≤ length (now bytes)) ⌝ }
     ensures { λ r. ⌜ r ≡ nextOf run (now (bytes .entry)) task ⌝ }
 {
     let x = run.runs[task];

@@ -12,7 +12,7 @@ use reader::Span;
 use reader::head::set_starting;
 use reader::layout::Layout;
 
-fn blank_tasks() -> [TaskRun; 16]
+fn blank_tasks() -> [TaskRun; TASKS]
     ensures { λ r. ⌜ r ≡ blankTasks ⌝ }
 {
     let blank = TaskRun {
@@ -21,11 +21,11 @@ fn blank_tasks() -> [TaskRun; 16]
         done: 0,
         count: 0,
     };
-    [blank; 16]
+    [blank; TASKS]
 }
 
 // The first `tasks` tasks at the start of their bodies; a run has 16.
-fn starts(spans: [Span; 16], tasks: usize) -> [TaskRun; 16]
+fn starts(spans: [Span; TASKS], tasks: usize) -> [TaskRun; TASKS]
     ensures { λ r. ⌜ r ≡ startsOf spans tasks ⌝ }
 {
     let mut runs = blank_tasks();

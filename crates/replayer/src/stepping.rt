@@ -1,6 +1,7 @@
 // What a step does: the tests before the bytes, the access on the memory, the run's move, and the answers.
 ghost use mathlib.Core.Path.{_≡_};
 ghost use Prim.Native.Nat.{_+_, _<_};
+ghost use Rattle.codec.specs.Limit.{maxTasks};
 ghost use Rattle.replayer.specs.Run.{taskAt, doneOf, movedOf};
 ghost use Rattle.replayer.specs.Memory.{valueOf, performed};
 ghost use Rattle.replayer.specs.StepOf.{refusedStep, earlyNumber, onNext};
@@ -91,7 +92,7 @@ pub fn perform(op: Op, memory: &mut [u32]) -> u32
 
 // The task goes on to a place, with one more access done, `access` in all; no other task moves.
 fn moved(run: Run, task: usize, next: usize, access: usize) -> Run
-    requires { ⌜ (task < 16) × (access ≡ doneOf (run .runs) task + 1) ⌝ }
+    requires { ⌜ (task < maxTasks) × (access ≡ doneOf (run .runs) task + 1) ⌝ }
     ensures { λ r. ⌜ r ≡ movedOf run task next ⌝ }
 {
     let mut runs = run.runs;
@@ -112,7 +113,7 @@ fn moved(run: Run, task: usize, next: usize, access: usize) -> Run
 
 // A step that is taken: the access done on the memory, the run moved on, and the answer.
 pub(crate) fn taken(run: Run, memory: &mut [u32], task: usize, op: Op, next: usize) -> Stepped
-    requires { ⌜ (task < 16) × (taskAt (run .runs) task .done < taskAt (run .runs) task .count) ⌝ }
+    requires { ⌜ (task < maxTasks) × (taskAt (run .runs) task .done < taskAt (run .runs) task .count) ⌝ }
     ensures { λ r. ⌜ r ≡ onNext run (now (memory .entry)) task (Next.Open op next) .answer ⌝ }
     ensures { λ r. ⌜ now (memory .exit) ≡ onNext run (now (memory .entry)) task (Next.Open op next) .memory ⌝ }
 {

@@ -6,7 +6,7 @@ use lib.Dec.{eqb, leb, ltb}
 use lib.ListN.{getD}
 use Rattle.codec.specs.declared.Position.{Position}
 use Rattle.tracker.specs.State.{localityOf}
-use Rattle.codec.specs.Limit.{isWithin}
+use Rattle.codec.specs.Limit.{isWithin, maxTasks, maxObjects, maxAccesses}
 use Rattle.tracker.specs.Range.{allBelow}
 use Rattle.tracker.specs.Sum.{sumOf}
 use Rattle.tracker.specs.declared.Locality.{Locality}
@@ -21,7 +21,7 @@ lastSound last tasks shares done =
 
 -- of a task: "Done above 65,535", "any share number above G" for its Seen, "Took beyond its Done"
 unfoldable pub taskSound : ℕ → ℕ → ℕ → ℕ → Bool
-taskSound done seen took shares = leb done 65535 && leb seen shares && leb took done
+taskSound done seen took shares = leb done maxAccesses && leb seen shares && leb took done
 
 -- of an object: "any task kept not below T" for its holder, "an object's share number 0", "any share number above G"
 unfoldable pub objectSound : Locality → ℕ → ℕ → Bool
@@ -42,7 +42,7 @@ objectSoundAt s i = objectSound (localityOf s i) (s .tasks) (s .shares)
 -- "T, N out of range" and all of the above
 unfoldable pub soundOf : State → Bool
 soundOf s =
-    isWithin 1 16 (s .tasks) && isWithin 1 256 (s .objects)
+    isWithin 1 maxTasks (s .tasks) && isWithin 1 maxObjects (s .objects)
     && lastSound (s .last) (s .tasks) (s .shares) (s .done)
     && tasksSound (s .tasks) (s .shares) (s .done) (s .seen) (s .took)
     && allBelow (objectSoundAt s) (s .objects)

@@ -2,6 +2,7 @@
 use Prim.Native.Nat.{ℕ}
 use lib.ListN.{getD, replicate}
 use Rattle.codec.specs.declared.Position.{Position}
+use Rattle.codec.specs.Limit.{maxTasks, maxObjects}
 use Rattle.tracker.specs.declared.Locality.{Locality}
 use Rattle.tracker.specs.declared.Locality.the-variants.{WriteExclusive, ReadExclusive, ReadShared}
 use Rattle.tracker.specs.declared.ObjectRecord.{ObjectRecord}
@@ -58,10 +59,10 @@ abbrev pub blankState : State
 blankState = record {
   tasks = 0;
   objects = 0;
-  records = replicate 256 (owned 0);
-  done = replicate 16 0;
-  seen = replicate 16 0;
-  took = replicate 16 0;
+  records = replicate maxObjects (owned 0);
+  done = replicate maxTasks 0;
+  seen = replicate maxTasks 0;
+  took = replicate maxTasks 0;
   shares = 0;
   last = nowhere;
 }

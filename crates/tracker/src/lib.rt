@@ -3,6 +3,8 @@ ghost use mathlib.Core.Path.{_≡_};
 ghost use Rattle.tracker.specs.Laws.Counters.{countersOf};
 ghost use Rattle.tracker.specs.State.{blankState};
 use codec::Position;
+use codec::limit::OBJECTS;
+use codec::limit::TASKS;
 
 pub mod advance;
 pub mod sound;
@@ -26,10 +28,10 @@ pub struct ObjectRecord {
 pub struct State {
     pub tasks: u16,
     pub objects: u16,
-    pub records: [ObjectRecord; 256],
-    pub done: [u16; 16],
-    pub seen: [u32; 16],
-    pub took: [u16; 16],
+    pub records: [ObjectRecord; OBJECTS],
+    pub done: [u16; TASKS],
+    pub seen: [u32; TASKS],
+    pub took: [u16; TASKS],
     pub shares: u32,
     pub last: Position,
 }
@@ -38,9 +40,9 @@ pub struct State {
 pub struct Counters {
     pub tasks: u16,
     pub objects: u16,
-    pub done: [u16; 16],
-    pub seen: [u32; 16],
-    pub took: [u16; 16],
+    pub done: [u16; TASKS],
+    pub seen: [u32; TASKS],
+    pub took: [u16; TASKS],
     pub shares: u32,
     pub last: Position,
 }
@@ -82,10 +84,10 @@ pub fn blank() -> State
     State {
         tasks: 0,
         objects: 0,
-        records: [record; 256],
-        done: [0u16; 16],
-        seen: [0u32; 16],
-        took: [0u16; 16],
+        records: [record; OBJECTS],
+        done: [0u16; TASKS],
+        seen: [0u32; TASKS],
+        took: [0u16; TASKS],
         shares: 0,
         last,
     }

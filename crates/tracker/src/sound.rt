@@ -2,10 +2,11 @@
 // over the records themselves, since a function that took them would be given a copy.
 ghost use mathlib.Core.Path.{_≡_};
 ghost use Prim.Native.Nat.{_≤_, min};
+ghost use Rattle.codec.specs.Limit.{maxTasks, maxObjects};
 ghost use Rattle.tracker.specs.Laws.Scan.{countersSound};
 ghost use Rattle.tracker.specs.Sound.{lastSound, taskSound, tasksSound, objectSound};
-use crate::Locality;
 use crate::Counters;
+use crate::Locality;
 use codec::Position;
 use codec::limit::OBJECTS;
 use codec::limit::TASKS;
@@ -13,8 +14,8 @@ use codec::limit::least;
 use codec::limit::within;
 
 // Last is none, and then there is no share, or its task has made that access.
-fn last_sound(last: Position, tasks: u16, shares: u32, done: [u16; 16]) -> bool
-    requires { ⌜ tasks ≤ 16 ⌝ }
+fn last_sound(last: Position, tasks: u16, shares: u32, done: [u16; TASKS]) -> bool
+    requires { ⌜ tasks ≤ maxTasks ⌝ }
     ensures { λ r. ⌜ r ≡ lastSound last tasks shares done ⌝ }
 {
     if last.number == 0 {
@@ -46,8 +47,14 @@ pub fn object_sound(locality: Locality, tasks: u16, shares: u32) -> bool
 }
 
 // Each task, and G at most the sum of Done.
-fn tasks_sound(tasks: u16, shares: u32, done: [u16; 16], seen: [u32; 16], took: [u16; 16]) -> bool
-    requires { ⌜ tasks ≤ 16 ⌝ }
+fn tasks_sound(
+    tasks: u16,
+    shares: u32,
+    done: [u16; TASKS],
+    seen: [u32; TASKS],
+    took: [u16; TASKS],
+) -> bool
+    requires { ⌜ tasks ≤ maxTasks ⌝ }
     ensures { λ r. ⌜ r ≡ tasksSound tasks shares done seen took ⌝ }
 {
     let n = tasks as usize;
@@ -87,7 +94,7 @@ pub fn counters_sound(counters: Counters) -> bool
 
 // The objects that have a record; a state that is not sound may name more.
 pub fn objects_in(objects: u16) -> usize
-    ensures { λ r. ⌜ r ≡ min objects 256 ⌝ }
+    ensures { λ r. ⌜ r ≡ min objects maxObjects ⌝ }
 {
     least(objects as usize, OBJECTS)
 }

@@ -2,13 +2,14 @@ use native.Mathlib.Omega.{arith}
 use mathlib.Core.Path.{refl}
 use Prim.Native.Nat.{_+_, _-_}
 use lib.ListN.{getD}
+use Rattle.codec.specs.Limit.{maxTasks}
 use Rattle.replayer.specs.Laws.Each.{Filled, filled-none, filled-more, filled-all}
 use borrow.Author.Needs.{needs}
 use Rattle.arrays.proofs.counters_of.Statement.{statement}
 use Rattle.arrays.proofs.counters_of.Tie as tie
 
 abbrev Inv-loop : tie.InvT-loop
-Inv-loop halves words done₀ seen₀ took₀ t₀ done seen took t = Filled (λ k. getD halves (4 + k) 0) 16 done t × Filled (λ k. getD words (1 + k) 0) 16 seen t × Filled (λ k. getD halves (20 + k) 0) 16 took t
+Inv-loop halves words done₀ seen₀ took₀ t₀ done seen took t = Filled (λ k. getD halves (4 + k) 0) maxTasks done t × Filled (λ k. getD words (1 + k) 0) maxTasks seen t × Filled (λ k. getD halves (20 + k) 0) maxTasks took t
 
 abbrev μ-loop : tie.MeasureT-loop
 μ-loop halves words done₀ seen₀ took₀ t₀ done seen took t = 16 - t
@@ -70,7 +71,7 @@ loop-less c = search needs
 loop-again : tie.Need-loop-again Inv-loop μ-loop
 loop-again c =
     let l = c .before .before .before .before .loop in
-    (filled-more _ 16 (l .done) (l .t) (omega arith) (l .inv .0), filled-more _ 16 (l .seen) (l .t) (omega arith) (l .inv .1), filled-more _ 16 (l .took) (l .t) (omega arith) (l .inv .2))
+    (filled-more _ maxTasks (l .done) (l .t) (omega arith) (l .inv .0), filled-more _ maxTasks (l .seen) (l .t) (omega arith) (l .inv .1), filled-more _ maxTasks (l .took) (l .t) (omega arith) (l .inv .2))
 
 element-copy-out-t28 : tie.Need-element-copy-out-t28 Inv-loop μ-loop
 element-copy-out-t28 c = search needs
@@ -91,7 +92,7 @@ returns : tie.Need-returns Inv-loop μ-loop
 returns c =
     let l = c .before .before .before .before .before .before .loop in
     let h = c .before .before .before .before .before .loop-test .left in
-    rw (filled-all _ 16 _ _ h (l .inv .0), filled-all _ 16 _ _ h (l .inv .1), filled-all _ 16 _ _ h (l .inv .2))
+    rw (filled-all _ maxTasks _ _ h (l .inv .0), filled-all _ maxTasks _ _ h (l .inv .1), filled-all _ maxTasks _ _ h (l .inv .2))
 
 pub counters-of-spec : {M : Type 1} → statement M
 counters-of-spec =

@@ -1,6 +1,7 @@
 use mathlib.Core.Path.{_≡_}
 use native.Mathlib.Omega.{arith}
 use Rattle.codec.specs.Store.{store}
+use Rattle.codec.specs.Limit.{maxObjects}
 use Rattle.tracker.specs.State.{holderOf}
 use Rattle.arrays.specs.Halves.{caseOf, localityAt, sharesOf}
 use Rattle.arrays.specs.Laws.HalvesCode.{two, two-none, two-more, one-none}
@@ -12,7 +13,7 @@ use Rattle.arrays.proofs.put_records.Tie as tie
 
 abbrev Inv-loop : tie.InvT-loop
 Inv-loop halves₀ words₀ records i₀ halves words i =
-    (i ≤ 256) × (halves ≡ two halves₀ 36 292 (λ k. caseOf (localityAt records k)) (λ k. holderOf (localityAt records k)) i) × (words ≡ store words₀ 17 (sharesOf records i))
+    (i ≤ maxObjects) × (halves ≡ two halves₀ 36 292 (λ k. caseOf (localityAt records k)) (λ k. holderOf (localityAt records k)) i) × (words ≡ store words₀ 17 (sharesOf records i))
 
 abbrev μ-loop : tie.MeasureT-loop
 μ-loop halves₀ words₀ records i₀ halves words i =
@@ -78,7 +79,7 @@ loop-again c =
     )
 
 returns : tie.Need-returns Inv-loop μ-loop
-returns c = let l = c .before .loop in let e : l .i ≡ 256 = omega arith in (rw e at (l .inv .1), rw e at (l .inv .2))
+returns c = let l = c .before .loop in let e : l .i ≡ maxObjects = omega arith in (rw e at (l .inv .1), rw e at (l .inv .2))
 
 pub put-records-spec : {M : Type 1} → statement M
 put-records-spec =

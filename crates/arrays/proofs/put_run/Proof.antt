@@ -2,6 +2,7 @@ use mathlib.Core.Path.{_≡_, _∙_}
 use Prim.Native.Nat.{_≤_, _-_}
 use native.Mathlib.Omega.{arith}
 use Rattle.codec.specs.Store.{store}
+use Rattle.codec.specs.Limit.{maxTasks}
 use Rattle.arrays.specs.Places.{firstPlaces}
 use Rattle.arrays.specs.Laws.PlacesCode.{places-none, places-more, places-all}
 use borrow.Author.Needs.{needs}
@@ -10,7 +11,7 @@ use Rattle.arrays.proofs.put_run.Tie as tie
 
 abbrev Inv-loop : tie.InvT-loop
 Inv-loop places₀ run t₀ places t =
-    (t ≤ 16) × (places ≡ store places₀ 2 (firstPlaces (run .runs) t))
+    (t ≤ maxTasks) × (places ≡ store places₀ 2 (firstPlaces (run .runs) t))
 
 abbrev μ-loop : tie.MeasureT-loop
 μ-loop places₀ run t₀ places t =
@@ -89,7 +90,7 @@ loop-again : tie.Need-loop-again Inv-loop μ-loop
 loop-again c = let l = c .before .before .loop in (omega arith, rw (l .inv .1) (places-more _ _ (l .t)))
 
 returns : tie.Need-returns Inv-loop μ-loop
-returns c = let l = c .before .loop in let e : l .t ≡ 16 = omega arith in rw e at (l .inv .1) ∙ places-all (c .before .before .args .t1) (c .before .before .args .places .now)
+returns c = let l = c .before .loop in let e : l .t ≡ maxTasks = omega arith in rw e at (l .inv .1) ∙ places-all (c .before .before .args .t1) (c .before .before .args .places .now)
 
 pub put-run-spec : {M : Type 1} → statement M
 put-run-spec =

@@ -1,3 +1,4 @@
+use Rattle.codec.specs.Limit.{maxTasks, maxObjects}
 use Rattle.replayer.specs.Laws.Each.{each-length}
 use Rattle.arrays.specs.Laws.HalvesCode.{halves-all, words-all}
 use borrow.Author.Needs.{needs}
@@ -29,7 +30,7 @@ returns : tie.Need-returns
 returns c =
     let t = c .before .put-tasks .ensures in
     let r = c .before .before .before .before .before .before .before .put-records .ensures in
-    (rw (t .0, r .0) (halves-all _ _ _ _ _ (each-length _ 16) (each-length _ 16) (each-length _ 256) _ _ _ _), rw (t .1, r .1) (words-all _ _ _ _ (each-length _ 16)))
+    (rw (t .0, r .0) (halves-all _ _ _ _ _ (each-length _ maxTasks) (each-length _ maxTasks) (each-length _ maxObjects) _ _ _ _), rw (t .1, r .1) (words-all _ _ _ _ (each-length _ maxTasks)))
 
 pub put-state-spec : {M : Type 1} → statement M
 put-state-spec =

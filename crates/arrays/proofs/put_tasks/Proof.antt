@@ -2,6 +2,7 @@ use mathlib.Core.Path.{_≡_}
 use native.Mathlib.Omega.{arith}
 use lib.ListN.{getD}
 use Rattle.codec.specs.Store.{store}
+use Rattle.codec.specs.Limit.{maxTasks}
 use Rattle.arrays.specs.Halves.{firstOf}
 use Rattle.arrays.specs.Laws.HalvesCode.{two, two-none, two-more, one-none}
 use Rattle.arrays.specs.Laws.Stores.{store-more}
@@ -12,7 +13,7 @@ use Rattle.arrays.proofs.put_tasks.Tie as tie
 
 abbrev Inv-loop : tie.InvT-loop
 Inv-loop halves₀ words₀ done seen took t₀ halves words t =
-    (t ≤ 16) × (halves ≡ two halves₀ 4 20 (λ k. getD done k 0) (λ k. getD took k 0) t) × (words ≡ store words₀ 1 (firstOf seen t))
+    (t ≤ maxTasks) × (halves ≡ two halves₀ 4 20 (λ k. getD done k 0) (λ k. getD took k 0) t) × (words ≡ store words₀ 1 (firstOf seen t))
 
 abbrev μ-loop : tie.MeasureT-loop
 μ-loop halves₀ words₀ done seen took t₀ halves words t =
@@ -78,7 +79,7 @@ loop-again c =
     (omega arith, rw (l .inv .1) (two-more _ 4 20 (l .t) _ _ (omega arith)), rw (l .inv .2) (store-more _ 1 (l .t) _))
 
 returns : tie.Need-returns Inv-loop μ-loop
-returns c = let l = c .before .loop in let e : l .t ≡ 16 = omega arith in (rw e at (l .inv .1), rw e at (l .inv .2))
+returns c = let l = c .before .loop in let e : l .t ≡ maxTasks = omega arith in (rw e at (l .inv .1), rw e at (l .inv .2))
 
 pub put-tasks-spec : {M : Type 1} → statement M
 put-tasks-spec =

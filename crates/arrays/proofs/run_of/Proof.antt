@@ -1,6 +1,7 @@
 use mathlib.Core.Path.{refl}
 use Prim.Native.Nat.{_-_}
 use native.Mathlib.Omega.{arith}
+use Rattle.codec.specs.Limit.{maxTasks}
 use Rattle.replayer.specs.Laws.Each.{Filled, filled-none, filled-more, filled-all}
 use Rattle.arrays.specs.Places.{taskIn}
 use borrow.Author.Needs.{needs}
@@ -8,7 +9,7 @@ use Rattle.arrays.proofs.run_of.Statement.{statement}
 use Rattle.arrays.proofs.run_of.Tie as tie
 
 abbrev Inv-loop : tie.InvT-loop
-Inv-loop places runs₀ t₀ runs t = Filled (taskIn places) 16 runs t
+Inv-loop places runs₀ t₀ runs t = Filled (taskIn places) maxTasks runs t
 
 abbrev μ-loop : tie.MeasureT-loop
 μ-loop places runs₀ t₀ runs t = 16 - t
@@ -77,7 +78,7 @@ loop-less : tie.Need-loop-less Inv-loop μ-loop
 loop-less c = search needs
 
 loop-again : tie.Need-loop-again Inv-loop μ-loop
-loop-again c = let l = c .before .before .before .before .before .loop in filled-more (taskIn (c .before .before .before .before .before .before .args .places .now)) 16 (l .runs) (l .t) (omega arith) (l .inv)
+loop-again c = let l = c .before .before .before .before .before .loop in filled-more (taskIn (c .before .before .before .before .before .before .args .places .now)) maxTasks (l .runs) (l .t) (omega arith) (l .inv)
 
 element-copy-out-t35 : tie.Need-element-copy-out-t35 Inv-loop μ-loop
 element-copy-out-t35 c = search needs
@@ -86,7 +87,7 @@ element-copy-out-t38 : tie.Need-element-copy-out-t38 Inv-loop μ-loop
 element-copy-out-t38 c = search needs
 
 returns : tie.Need-returns Inv-loop μ-loop
-returns c = rw (filled-all _ 16 _ _ (c .before .before .loop-test .left) (c .before .before .before .loop .inv))
+returns c = rw (filled-all _ maxTasks _ _ (c .before .before .loop-test .left) (c .before .before .before .loop .inv))
 
 pub run-of-spec : {M : Type 1} → statement M
 run-of-spec =

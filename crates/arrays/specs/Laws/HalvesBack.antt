@@ -6,6 +6,7 @@ use native.Mathlib.Omega.{arith}
 use lib.ListN.{length, getD, length-append, List·getD-append}
 use lib.Seq.{getD-append-add}
 use Rattle.codec.specs.Store.{store}
+use Rattle.codec.specs.Limit.{maxTasks, maxObjects}
 use Rattle.tracker.specs.declared.Locality.{Locality}
 use Rattle.tracker.specs.declared.Locality.the-variants.{WriteExclusive, ReadExclusive, ReadShared}
 use Rattle.tracker.specs.declared.State.{State}
@@ -31,10 +32,10 @@ past f n k i ys e = rw e (behind (each f n) ys n k (each-length f n))
 
 module _ (v₀ v₁ v₂ v₃ : ℕ) (done took cases holders : ℕ → ℕ) (k : ℕ) where
   abbrev objects : List ℕ
-  objects = each cases 256 ++ each holders 256
+  objects = each cases maxObjects ++ each holders maxObjects
 
   abbrev tasks : List ℕ
-  tasks = each done 16 ++ (each took 16 ++ objects)
+  tasks = each done maxTasks ++ (each took maxTasks ++ objects)
 
   abbrev stored : List ℕ
   stored = v₀ ∷ v₁ ∷ v₂ ∷ v₃ ∷ tasks
@@ -44,31 +45,31 @@ module _ (v₀ v₁ v₂ v₃ : ℕ) (done took cases holders : ℕ → ℕ) (k 
 
   past-tasks : (i j : ℕ) → i ≡ 36 + j → getD stored i 0 ≡ getD objects j 0
   past-tasks i j e =
-      past-counters i (32 + j) (omega arith) ∙ past done 16 (16 + j) (32 + j) (each took 16 ++ objects) (omega arith) ∙ past took 16 j (16 + j) objects refl
+      past-counters i (32 + j) (omega arith) ∙ past done maxTasks (16 + j) (32 + j) (each took maxTasks ++ objects) (omega arith) ∙ past took maxTasks j (16 + j) objects refl
 
-  done-at : k < 16 → getD stored (4 + k) 0 ≡ done k
-  done-at h = past-counters (4 + k) k refl ∙ front done 16 k (each took 16 ++ objects) h
+  done-at : k < maxTasks → getD stored (4 + k) 0 ≡ done k
+  done-at h = past-counters (4 + k) k refl ∙ front done maxTasks k (each took maxTasks ++ objects) h
 
-  took-at : k < 16 → getD stored (20 + k) 0 ≡ took k
-  took-at h = past-counters (20 + k) (16 + k) (omega arith) ∙ past done 16 k (16 + k) (each took 16 ++ objects) refl ∙ front took 16 k objects h
+  took-at : k < maxTasks → getD stored (20 + k) 0 ≡ took k
+  took-at h = past-counters (20 + k) (16 + k) (omega arith) ∙ past done maxTasks k (16 + k) (each took maxTasks ++ objects) refl ∙ front took maxTasks k objects h
 
-  case-at : k < 256 → getD stored (36 + k) 0 ≡ cases k
-  case-at h = past-tasks (36 + k) k refl ∙ front cases 256 k (each holders 256) h
+  case-at : k < maxObjects → getD stored (36 + k) 0 ≡ cases k
+  case-at h = past-tasks (36 + k) k refl ∙ front cases maxObjects k (each holders maxObjects) h
 
-  holder-at : k < 256 → getD stored (292 + k) 0 ≡ holders k
-  holder-at h = past-tasks (292 + k) (256 + k) (omega arith) ∙ past cases 256 k (256 + k) (each holders 256) refl ∙ each-at holders 256 k 0 h
+  holder-at : k < maxObjects → getD stored (292 + k) 0 ≡ holders k
+  holder-at h = past-tasks (292 + k) (256 + k) (omega arith) ∙ past cases maxObjects k (256 + k) (each holders maxObjects) refl ∙ each-at holders maxObjects k 0 h
 
 module _ (v : ℕ) (seen shares : ℕ → ℕ) (k : ℕ) where
   abbrev counts : List ℕ
-  counts = v ∷ (each seen 16 ++ each shares 256)
+  counts = v ∷ (each seen maxTasks ++ each shares maxObjects)
 
-  seen-at : k < 16 → getD counts (1 + k) 0 ≡ seen k
-  seen-at h = getD-append-add (v ∷ []) (each seen 16 ++ each shares 256) k 0 ∙ front seen 16 k (each shares 256) h
+  seen-at : k < maxTasks → getD counts (1 + k) 0 ≡ seen k
+  seen-at h = getD-append-add (v ∷ []) (each seen maxTasks ++ each shares maxObjects) k 0 ∙ front seen maxTasks k (each shares maxObjects) h
 
-  share-at : k < 256 → getD counts (17 + k) 0 ≡ shares k
+  share-at : k < maxObjects → getD counts (17 + k) 0 ≡ shares k
   share-at h =
       let e : 17 + k ≡ 1 + (16 + k) = omega arith in
-      rw e (getD-append-add (v ∷ []) (each seen 16 ++ each shares 256) (16 + k) 0) ∙ past seen 16 k (16 + k) (each shares 256) refl ∙ each-at shares 256 k 0 h
+      rw e (getD-append-add (v ∷ []) (each seen maxTasks ++ each shares maxObjects) (16 + k) 0) ∙ past seen maxTasks k (16 + k) (each shares maxObjects) refl ∙ each-at shares maxObjects k 0 h
 
 halves-length : (s : State) → length (halvesOf s) ≡ 548
 halves-length s = simp (length-append, each-length)
@@ -76,14 +77,14 @@ halves-length s = simp (length-append, each-length)
 words-length : (s : State) → length (wordsOf s) ≡ 273
 words-length s = simp (length-append, each-length)
 
-object-back : (s : State) (i : ℕ) → i < 256 → recordIn (halvesOf s) (wordsOf s) i ≡ getD (s .records) i (owned 0)
+object-back : (s : State) (i : ℕ) → i < maxObjects → recordIn (halvesOf s) (wordsOf s) i ≡ getD (s .records) i (owned 0)
 object-back s i h = rw (case-at _ _ _ _ _ _ _ _ i h, holder-at _ _ _ _ _ _ _ _ i h, share-at _ _ _ i h) (record-back (localityAt (s .records) i))
 
 pub state-back : (s : State) (halves words : List ℕ) → length halves ≡ 548 → length words ≡ 273 → Shaped s
     → stateIn (store halves 0 (halvesOf s)) (store words 0 (wordsOf s)) ≡ s
 state-back s halves words h w p =
-    let a : each (recordIn (halvesOf s) (wordsOf s)) 256 ≡ s .records = each-of _ 256 (s .records) (owned 0) (p .records) (object-back s) in
-    let d : entriesIn (halvesOf s) 4 ≡ s .done = each-of _ 16 (s .done) 0 (p .done) (λ k. done-at _ _ _ _ _ _ _ _ k) in
-    let t : entriesIn (halvesOf s) 20 ≡ s .took = each-of _ 16 (s .took) 0 (p .took) (λ k. took-at _ _ _ _ _ _ _ _ k) in
-    let e : entriesIn (wordsOf s) 1 ≡ s .seen = each-of _ 16 (s .seen) 0 (p .seen) (λ k. seen-at _ _ _ k) in
+    let a : each (recordIn (halvesOf s) (wordsOf s)) maxObjects ≡ s .records = each-of _ maxObjects (s .records) (owned 0) (p .records) (object-back s) in
+    let d : entriesIn (halvesOf s) 4 ≡ s .done = each-of _ maxTasks (s .done) 0 (p .done) (λ k. done-at _ _ _ _ _ _ _ _ k) in
+    let t : entriesIn (halvesOf s) 20 ≡ s .took = each-of _ maxTasks (s .took) 0 (p .took) (λ k. took-at _ _ _ _ _ _ _ _ k) in
+    let e : entriesIn (wordsOf s) 1 ≡ s .seen = each-of _ maxTasks (s .seen) 0 (p .seen) (λ k. seen-at _ _ _ k) in
     rw (store-whole halves (halvesOf s) (h ∙ sym (halves-length s)), store-whole words (wordsOf s) (w ∙ sym (words-length s)), a, d, t, e)

@@ -7,6 +7,7 @@ use borrow.Author.Tests.{eq-eqb, ne-eqb}
 use lib.ListN.{length, set, length-append}
 use Rattle.codec.specs.Store.{store}
 use Rattle.codec.specs.Laws.Store.{store-behind}
+use Rattle.codec.specs.Limit.{maxTasks, maxObjects}
 use Rattle.replayer.specs.Each.{each}
 use Rattle.arrays.specs.Halves.{movedTo}
 use Rattle.arrays.specs.Laws.Stores.{store-set, store-swap, store-more}
@@ -27,14 +28,14 @@ pub one-none : (l : List ℕ) (at : ℕ) (f : ℕ → ℕ) → l ≡ store l at 
 unfolding store each
 one-none l at f = refl
 
-module _ (l done took cases holders : List ℕ) (d : length done ≡ 16) (t : length took ≡ 16) (c : length cases ≡ 256) where
+module _ (l done took cases holders : List ℕ) (d : length done ≡ maxTasks) (t : length took ≡ maxTasks) (c : length cases ≡ maxObjects) where
   -- the objects' parts and then the tasks' are one part
   parts : store (store (store (store l 36 cases) 292 holders) 4 done) 20 took ≡ store l 4 (done ++ (took ++ (cases ++ holders)))
   parts =
       let n : length (done ++ took) ≡ 32 = rw length-append (omega arith) in
       rw (
-        store-behind l 36 256 cases holders c,
-        store-behind _ 4 16 done took d,
+        store-behind l 36 maxObjects cases holders c,
+        store-behind _ 4 maxTasks done took d,
         store-swap l 4 36 (done ++ took) (cases ++ holders) (omega arith),
         store-behind l 4 32 (done ++ took) (cases ++ holders) n,
         append-assoc,
@@ -48,11 +49,11 @@ module _ (l done took cases holders : List ℕ) (d : length done ≡ 16) (t : le
       let x = done ++ (took ++ (cases ++ holders)) in
       rw (parts, store-set l 0 4 v₀ x (omega arith), store-set _ 1 4 v₁ x (omega arith), store-set _ 2 4 v₂ x (omega arith), store-set _ 3 4 v₃ x (omega arith))
 
-pub words-all : (l seen shares : List ℕ) (v : ℕ) → length seen ≡ 16 →
+pub words-all : (l seen shares : List ℕ) (v : ℕ) → length seen ≡ maxTasks →
     set (store (store l 17 shares) 1 seen) 0 v ≡ store l 0 (v ∷ (seen ++ shares))
 unfolding store
 words-all l seen shares v h =
-    rw (store-swap l 1 17 seen shares (omega arith), store-behind l 1 16 seen shares h, store-set l 0 1 v (seen ++ shares) (omega arith))
+    rw (store-swap l 1 17 seen shares (omega arith), store-behind l 1 maxTasks seen shares h, store-set l 0 1 v (seen ++ shares) (omega arith))
 
 -- an array after a call that moves the state
 pub moved-not : (number : ℕ) (l numbers : List ℕ) → (number ≡ 0 → ⊥) → l ≡ movedTo number l numbers

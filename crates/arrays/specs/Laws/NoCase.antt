@@ -9,6 +9,7 @@ use lib.ListN.{getD}
 use Rattle.tracker.specs.declared.ObjectRecord.{ObjectRecord}
 use Rattle.tracker.specs.declared.Locality.the-variants.{ReadShared}
 use Rattle.codec.specs.Laws.Limit.{within-below}
+use Rattle.codec.specs.Limit.{maxObjects}
 use Rattle.tracker.specs.Laws.Scan.{scan-bad}
 use Rattle.tracker.specs.Sound.{objectSound, soundOf}
 use Rattle.tracker.specs.State.{owned}
@@ -19,9 +20,9 @@ without-meaning : (case task share : ℕ) → 2 < case → recordOf case task sh
 unfolding recordOf
 without-meaning case task share h = rw (ne-eqb case 0 (λ e. omega arith), ne-eqb case 1 (λ e. omega arith), ne-eqb case 2 (λ e. omega arith))
 
-pub no-case : (halves words : List ℕ) (i : ℕ) → i < 256 → i < getD halves 1 0 → 2 < getD halves (36 + i) 0 → soundOf (stateIn halves words) ≡ false
+pub no-case : (halves words : List ℕ) (i : ℕ) → i < maxObjects → i < getD halves 1 0 → 2 < getD halves (36 + i) 0 → soundOf (stateIn halves words) ≡ false
 unfolding objectSound
 no-case halves words i h n k =
     scan-bad (stateIn halves words) i n
-    (ap (λ (r : ObjectRecord). objectSound (r .locality) (getD halves 0 0) (getD words 0 0)) (each-at (recordIn halves words) 256 i (owned 0) h ∙ without-meaning _ _ _ k)
+    (ap (λ (r : ObjectRecord). objectSound (r .locality) (getD halves 0 0) (getD words 0 0)) (each-at (recordIn halves words) maxObjects i (owned 0) h ∙ without-meaning _ _ _ k)
     ∙ within-below 1 (getD words 0 0) 0 (omega arith))

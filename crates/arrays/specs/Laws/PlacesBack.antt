@@ -7,6 +7,7 @@ use native.Mathlib.Omega.{arith}
 use lib.ListN.{length, getD, List·getD-append}
 use lib.Seq.{getD-append-add}
 use Rattle.codec.specs.Store.{store}
+use Rattle.codec.specs.Limit.{maxTasks}
 use Rattle.replayer.specs.declared.TaskRun.{TaskRun}
 use Rattle.replayer.specs.declared.Run.{Run}
 use Rattle.replayer.specs.Laws.Moved.{Shaped}
@@ -27,10 +28,10 @@ places-at runs (suc n) t k h l = elim (ℕ-discrete t n) [
 ]
 
 module _ (r : Run) where
-  place-at : (t k i : ℕ) → t < 16 → k < 4 → i ≡ 2 + (4 * t + k) → getD (placesOf r) i 0 ≡ getD (taskPlaces (taskAt (r .runs) t)) k 0
-  place-at t k i h l e = rw e (getD-append-add (r .tasks ∷ r .objects ∷ []) (firstPlaces (r .runs) 16) (4 * t + k) 0 ∙ places-at (r .runs) 16 t k h l)
+  place-at : (t k i : ℕ) → t < maxTasks → k < 4 → i ≡ 2 + (4 * t + k) → getD (placesOf r) i 0 ≡ getD (taskPlaces (taskAt (r .runs) t)) k 0
+  place-at t k i h l e = rw e (getD-append-add (r .tasks ∷ r .objects ∷ []) (firstPlaces (r .runs) maxTasks) (4 * t + k) 0 ∙ places-at (r .runs) maxTasks t k h l)
 
-  task-back : (t : ℕ) → t < 16 → taskIn (placesOf r) t ≡ taskAt (r .runs) t
+  task-back : (t : ℕ) → t < maxTasks → taskIn (placesOf r) t ≡ taskAt (r .runs) t
   task-back t h =
       rw (
         place-at t 0 (2 + 4 * t) h (omega arith) (omega arith),
@@ -41,5 +42,5 @@ module _ (r : Run) where
 
   pub run-back : (places : List ℕ) → length places ≡ 66 → Shaped r → runIn (store places 0 (placesOf r)) ≡ r
   run-back places h s =
-      let n : length places ≡ length (placesOf r) = omega (arith, places-length (r .runs) 16) in
-      rw (store-whole places (placesOf r) n, each-of (taskIn (placesOf r)) 16 (r .runs) blankTask s task-back)
+      let n : length places ≡ length (placesOf r) = omega (arith, places-length (r .runs) maxTasks) in
+      rw (store-whole places (placesOf r) n, each-of (taskIn (placesOf r)) maxTasks (r .runs) blankTask s task-back)

@@ -7,6 +7,7 @@ use native.Mathlib.Omega.{arith}
 use lib.ListN.{length, set, length-append}
 use Rattle.codec.specs.Store.{store}
 use Rattle.codec.specs.Laws.Store.{store-behind}
+use Rattle.codec.specs.Limit.{maxTasks}
 use Rattle.replayer.specs.declared.TaskRun.{TaskRun}
 use Rattle.replayer.specs.declared.Run.{Run}
 use Rattle.replayer.specs.Run.{taskAt}
@@ -31,6 +32,6 @@ places-more runs l t =
     let i₅ : 5 + 4 * t ≡ suc (suc (suc (2 + 4 * t))) = omega arith in
     rw (i₅, i₄, i₃, add-one) (store-behind l 2 (4 * t) (firstPlaces runs t) (taskPlaces (taskAt runs t)) (places-length runs t))
 
-pub places-all : (r : Run) (l : List ℕ) → store (set (set l 0 (r .tasks)) 1 (r .objects)) 2 (firstPlaces (r .runs) 16) ≡ store l 0 (placesOf r)
+pub places-all : (r : Run) (l : List ℕ) → store (set (set l 0 (r .tasks)) 1 (r .objects)) 2 (firstPlaces (r .runs) maxTasks) ≡ store l 0 (placesOf r)
 unfolding store
 places-all r l = refl

@@ -11,6 +11,7 @@ use Rattle.codec.specs.Laws.Decide.{passes, fails, split}
 use Rattle.codec.specs.Laws.Encode.{section-length}
 use Rattle.codec.specs.Laws.Store.{store-front}
 use Rattle.codec.specs.Kind.{sectionKind, lengthOf}
+use Rattle.codec.specs.Limit.{maxAccesses}
 use Rattle.reader.specs.Body.{walkOf}
 use Rattle.reader.specs.Bytes.{bodyBytes, sectionsBytes}
 use Rattle.reader.specs.Laws.Joined.{reads-walk}
@@ -61,7 +62,7 @@ module _ {start : ℕ → ℕ} {tasks objects : ℕ} {b : Box} {h : History} (f 
   sound = tracks-invariant (f .tracks) .sound
 
   module _ (t : ℕ) (low : t < tasks) where
-    few : length (filedOf t h) ≤ 65535
+    few : length (filedOf t h) ≤ maxAccesses
     few = omega (arith, done-is t, sound .task t (omega (arith, f .tasks-are)) .done-fits)
 
     log-size : length (b .logs t) < 4294967296

@@ -13,6 +13,7 @@ use Rattle.codec.specs.declared.Op.{Op}
 use Rattle.codec.specs.Laws.Decide.{never}
 use Rattle.codec.specs.Laws.Encode.{op-reads, op-writes, op-object, op-value}
 use Rattle.codec.specs.Kind.{reads, writes}
+use Rattle.codec.specs.Limit.{maxTasks}
 use Rattle.reader.specs.Bytes.{entryLength}
 use Rattle.reader.specs.Reading.{read}
 use Rattle.reader.specs.Recording.{Entry as FileEntry}
@@ -93,7 +94,7 @@ module _ (h : History) (bytes : List ℕ) (tasks objects : ℕ) (holds : Holds h
     next-is : nx ≡ taskAt (b .run .runs) t .place + entryLength (filed e)
     next-is = w .entry .next ∙ ap (λ (f : FileEntry). taskAt (b .run .runs) t .place + entryLength f) entry-is
 
-    few : t < 16
+    few : t < maxTasks
     few = omega (arith, w .below, Rattle.replayer.specs.Laws.Sound.sound-facts (b .run) (length bytes) (i .sound) .few-tasks)
 
     object-low : filedOp (e .act) .object < objects

@@ -8,6 +8,7 @@ use mathlib.Core.Path.{_≡_, refl, sym, ap, _∙_}
 use native.Mathlib.Decide.{ℕ-discrete}
 use native.Mathlib.Omega.{arith}
 use lib.Seq.{getD-set-same, getD-set-other}
+use Rattle.codec.specs.Limit.{maxTasks}
 use Rattle.replayer.specs.declared.TaskRun.{TaskRun}
 use Rattle.replayer.specs.declared.Run.{Run}
 use Rattle.playback.specs.declared.columns.Columns.{Columns}
@@ -27,7 +28,7 @@ abbrev pub taskOf : List ℕ → List ℕ → List ℕ → List ℕ → ℕ → 
 taskOf places ends dones counts t = record { place = getD places t 0; end = getD ends t 0; done = getD dones t 0; count = getD counts t 0 }
 
 abbrev pub runOf : ℕ → ℕ → List ℕ → List ℕ → List ℕ → List ℕ → Run
-runOf tasks objects places ends dones counts = record { tasks = tasks; objects = objects; runs = each (taskOf places ends dones counts) 16 }
+runOf tasks objects places ends dones counts = record { tasks = tasks; objects = objects; runs = each (taskOf places ends dones counts) maxTasks }
 
 -- the columns of a run
 abbrev pub placeOf : List TaskRun → ℕ → ℕ
@@ -41,10 +42,10 @@ countOf runs t = taskAt runs t .count
 
 abbrev pub columnsOf : Run → Columns
 columnsOf r = record {
-  places = each (placeOf (r .runs)) 16;
-  ends = each (endOf (r .runs)) 16;
+  places = each (placeOf (r .runs)) maxTasks;
+  ends = each (endOf (r .runs)) maxTasks;
   dones = donesOf (r .runs);
-  counts = each (countOf (r .runs)) 16;
+  counts = each (countOf (r .runs)) maxTasks;
 }
 
 -- no task of them has accesses left
@@ -55,36 +56,36 @@ abbrev pub allDoneOf : ℕ → List ℕ → List ℕ → Bool
 allDoneOf tasks dones counts = allFrom (doneBy dones counts) 0 (tasksIn tasks)
 
 pub columns-back : (r : Run) (k : Columns) → k ≡ columnsOf r → Shaped r → runOf (r .tasks) (r .objects) (k .places) (k .ends) (k .dones) (k .counts) ≡ r
-columns-back r k e s = rw (e, each-of (taskOf (columnsOf r .places) (columnsOf r .ends) (columnsOf r .dones) (columnsOf r .counts)) 16 (r .runs) blankTask s back)
+columns-back r k e s = rw (e, each-of (taskOf (columnsOf r .places) (columnsOf r .ends) (columnsOf r .dones) (columnsOf r .counts)) maxTasks (r .runs) blankTask s back)
   where
-    back : (t : ℕ) → t < 16 → taskOf (columnsOf r .places) (columnsOf r .ends) (columnsOf r .dones) (columnsOf r .counts) t ≡ taskAt (r .runs) t
-    back t h = rw (each-at (placeOf (r .runs)) 16 t 0 h, each-at (endOf (r .runs)) 16 t 0 h, each-at (doneOf (r .runs)) 16 t 0 h, each-at (countOf (r .runs)) 16 t 0 h)
+    back : (t : ℕ) → t < maxTasks → taskOf (columnsOf r .places) (columnsOf r .ends) (columnsOf r .dones) (columnsOf r .counts) t ≡ taskAt (r .runs) t
+    back t h = rw (each-at (placeOf (r .runs)) maxTasks t 0 h, each-at (endOf (r .runs)) maxTasks t 0 h, each-at (doneOf (r .runs)) maxTasks t 0 h, each-at (countOf (r .runs)) maxTasks t 0 h)
 
 module _ (tasks objects : ℕ) (places ends dones counts : List ℕ) where
   pub columns-shaped : Shaped (runOf tasks objects places ends dones counts)
-  columns-shaped = each-length (taskOf places ends dones counts) 16
+  columns-shaped = each-length (taskOf places ends dones counts) maxTasks
 
-  pub columns-task : (t : ℕ) → t < 16 → taskAt (runOf tasks objects places ends dones counts .runs) t ≡ taskOf places ends dones counts t
-  columns-task t h = each-at (taskOf places ends dones counts) 16 t blankTask h
+  pub columns-task : (t : ℕ) → t < maxTasks → taskAt (runOf tasks objects places ends dones counts .runs) t ≡ taskOf places ends dones counts t
+  columns-task t h = each-at (taskOf places ends dones counts) maxTasks t blankTask h
 
-  module _ (d : length dones ≡ 16) where
+  module _ (d : length dones ≡ maxTasks) where
     columns-dones : donesOf (runOf tasks objects places ends dones counts .runs) ≡ dones
-    columns-dones = each-of _ 16 dones 0 d (λ t h. ap (λ (y : TaskRun). y .done) (columns-task t h))
+    columns-dones = each-of _ maxTasks dones 0 d (λ t h. ap (λ (y : TaskRun). y .done) (columns-task t h))
 
     -- what a visit is handed
-    pub columns-one : (t : ℕ) → t < 16 → OneTask (runOf tasks objects places ends dones counts) t (taskOf places ends dones counts t) (limitsOf (runOf tasks objects places ends dones counts) t) dones
+    pub columns-one : (t : ℕ) → t < maxTasks → OneTask (runOf tasks objects places ends dones counts) t (taskOf places ends dones counts t) (limitsOf (runOf tasks objects places ends dones counts) t) dones
     columns-one t h = record { task = sym (columns-task t h); limits = refl; counts = columns-dones }
 
     -- a task goes on to a place, with one more access done
-    pub columns-moved : (t next k : ℕ) → t < 16 → length places ≡ 16 → k ≡ doneOf (runOf tasks objects places ends dones counts .runs) t + 1
+    pub columns-moved : (t next k : ℕ) → t < maxTasks → length places ≡ maxTasks → k ≡ doneOf (runOf tasks objects places ends dones counts .runs) t + 1
         → runOf tasks objects (set places t next) ends (set dones t k) counts ≡ movedOf (runOf tasks objects places ends dones counts) t next
     unfolding movedOf
-    columns-moved t next k h p e = rw (each-of (taskOf (set places t next) ends (set dones t k) counts) 16 (movedOf r t next .runs) blankTask (moved-shaped r t next columns-shaped) moved)
+    columns-moved t next k h p e = rw (each-of (taskOf (set places t next) ends (set dones t k) counts) maxTasks (movedOf r t next .runs) blankTask (moved-shaped r t next columns-shaped) moved)
       where
         r : Run
         r = runOf tasks objects places ends dones counts
 
-        moved : (u : ℕ) → u < 16 → taskOf (set places t next) ends (set dones t k) counts u ≡ taskAt (movedOf r t next .runs) u
+        moved : (u : ℕ) → u < maxTasks → taskOf (set places t next) ends (set dones t k) counts u ≡ taskAt (movedOf r t next .runs) u
         moved u l = elim (ℕ-discrete u t) [
           | yes q ↦ rw (q, moved-own r t next columns-shaped h, columns-task t h, getD-set-same places t next 0 (omega arith), getD-set-same dones t k 0 (omega arith), e ∙ ap (λ (y : TaskRun). y .done + 1) (columns-task t h))
           | no q ↦ rw (moved-other r t next u q, columns-task u l, getD-set-other places t u next 0 q, getD-set-other dones t u k 0 q)

@@ -5,6 +5,7 @@ use mathlib.Core.List.{List}
 use Prim.Native.Nat.{ℕ, _+_}
 use lib.ListN.{length, getD, set, replicate, length-set}
 use Rattle.codec.specs.declared.Op.{Op}
+use Rattle.codec.specs.Limit.{maxTasks}
 use Rattle.replayer.specs.declared.Run.{Run}
 use Rattle.replayer.specs.declared.TaskRun.{TaskRun}
 use Rattle.playback.specs.declared.columns.Columns.{Columns}
@@ -18,17 +19,17 @@ use Rattle.playback.specs.Laws.Visit.{Noted, noted-none}
 
 pub record Columned (b : List ℕ) (tasks objects : ℕ) (places ends dones counts scans ats : List ℕ) : Type 0 where
   pub sound : soundOf (runOf tasks objects places ends dones counts) (length b) ≡ true
-  pub places-all : length places ≡ 16
-  pub dones-all : length dones ≡ 16
+  pub places-all : length places ≡ maxTasks
+  pub dones-all : length dones ≡ maxTasks
   pub noted : Noted (runOf tasks objects places ends dones counts) b scans ats
 
 -- at first nothing is noted
 pub columned-none : (b : List ℕ) (r : Run) (k : Columns) → k ≡ columnsOf r → Shaped r → soundOf r (length b) ≡ true
-    → Columned b (r .tasks) (r .objects) (k .places) (k .ends) (k .dones) (k .counts) (replicate 16 0) (replicate 16 0)
+    → Columned b (r .tasks) (r .objects) (k .places) (k .ends) (k .dones) (k .counts) (replicate maxTasks 0) (replicate maxTasks 0)
 columned-none b r k e s h = record {
   sound = rw (columns-back r k e s) h;
-  places-all = rw e (each-length (placeOf (r .runs)) 16);
-  dones-all = rw e (each-length (doneOf (r .runs)) 16);
+  places-all = rw e (each-length (placeOf (r .runs)) maxTasks);
+  dones-all = rw e (each-length (doneOf (r .runs)) maxTasks);
   noted = noted-none _ b;
 }
 

@@ -10,6 +10,7 @@ use native.Mathlib.Decide.{ℕ-discrete}
 use lib.ListN.{length}
 use borrow.Author.Tests.{eq-eqb, ne-eqb}
 use Rattle.codec.specs.Laws.Decide.{never}
+use Rattle.codec.specs.Limit.{maxTasks}
 use Rattle.replayer.specs.declared.Run.{Run}
 use Rattle.playback.specs.Finish.{Play, wordAt, taskNext, onward, playedOf, leftIn, leftOver, finishOf, tasksIn}
 use Rattle.replayer.specs.Laws.Moved.{Shaped, moved-own, moved-other, moved-tasks}
@@ -48,7 +49,7 @@ unfolding leftIn
 left-same r t next zero h = refl
 left-same r t next (suc n) h = rw (moved-other r t next n (λ e. omega arith), left-same r t next n (omega arith))
 
-pub left-less : (r : Run) (t next n : ℕ) → Shaped r → t < 16 → taskAt (r .runs) t .done < taskAt (r .runs) t .count → t < n
+pub left-less : (r : Run) (t next n : ℕ) → Shaped r → t < maxTasks → taskAt (r .runs) t .done < taskAt (r .runs) t .count → t < n
     → leftIn (movedOf r t next .runs) n + 1 ≡ leftIn (r .runs) n
 unfolding leftIn
 left-less r t next zero s k l h = absurd (omega arith)
@@ -111,5 +112,5 @@ ends (suc n) b x w h = elim (ℕ-discrete (wordAt b x) 0) [
 pub finish-ends : (b : List ℕ) (x : Play) → Playing b x → wordAt b (finishOf b x) ≡ 0
 finish-ends b x w = ends (leftOver (x .run)) b x w (omega arith)
 
-pub tasks-few : (tasks : ℕ) → tasksIn tasks ≤ 16
+pub tasks-few : (tasks : ℕ) → tasksIn tasks ≤ maxTasks
 tasks-few tasks = omega arith

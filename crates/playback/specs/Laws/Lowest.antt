@@ -18,6 +18,7 @@ use Rattle.replayer.specs.ReadyOf.{readyOf, hasLeft, isReady}
 use Rattle.playback.specs.Schedule.{nextTask, behindOf}
 use Rattle.codec.specs.Laws.Decide.{both-pass, never}
 use Rattle.codec.specs.declared.Op.{Op}
+use Rattle.codec.specs.Limit.{maxTasks}
 use Rattle.playback.specs.Finish.{leftOver}
 use Rattle.playback.specs.Laws.Finish.{left-less, ready-word-zero}
 use Rattle.replayer.specs.Laws.Moved.{Shaped, moved-tasks, moved-sound}
@@ -42,7 +43,7 @@ unfoldable pub afterOf : Run → List ℕ → Run
 afterOf r b = cond (eqb (readyOf r b .word) 0) r (behindOf r (nextTask b r) (nextOf r b (nextTask b r)))
 
 -- there is one lowest
-lowest-same : (f : ℕ → Bool) (n t u : ℕ) → LowestIs 16 f 0 n u → t < n → f t ≡ true → ((s : ℕ) → s < t → f s ≡ false) → u ≡ t
+lowest-same : (f : ℕ → Bool) (n t u : ℕ) → LowestIs maxTasks f 0 n u → t < n → f t ≡ true → ((s : ℕ) → s < t → f s ≡ false) → u ≡ t
 lowest-same f n t u (nowhere e g) h p k = absurd (let o : 0 + t ≡ t = omega arith in never (f t) p (rw o at (g t h)))
 lowest-same f n t u (ready l q g) h p k =
     let o : 0 + t ≡ t = omega arith in
@@ -55,7 +56,7 @@ lowest-same f n t u (ready l q g) h p k =
       ]
     ]
 
-no-lowest : lowestReady 0 ≡ 16
+no-lowest : lowestReady 0 ≡ maxTasks
 unfolding lowestIn hasBit
 no-lowest = refl
 
@@ -67,7 +68,7 @@ ready-left r b t q = ltb-true _ _ (both-pass (hasLeft r t) _ q .0)
 -- the task that is stepped next, and its access
 pub record IsNext (r : Run) (b : List ℕ) (t : ℕ) (op : Op) (next : ℕ) : Type 0 where
   pub below : t < r .tasks
-  pub few : t < 16
+  pub few : t < maxTasks
   pub left : hasLeft r t ≡ true
   pub goes : readyOf r b .word ≡ 0 → ⊥
   pub first : nextTask b r ≡ t
@@ -97,7 +98,7 @@ module _ (r : Run) (b : List ℕ) where
     is-next : (t : ℕ) (op : Op) (next : ℕ) → t < r .tasks → isReady r b t ≡ true → nextOf r b t ≡ Open op next → nextTask b r ≡ t → IsNext r b t op next
     unfolding isReady
     is-next t op next h q n e =
-        let f : t < 16 = omega (arith, sound-facts r (length b) s .few-tasks) in
+        let f : t < maxTasks = omega (arith, sound-facts r (length b) s .few-tasks) in
         record { below = h; few = f; left = both-pass (hasLeft r t) _ q .0; goes = λ z. omega (arith, e, ap lowestReady z ∙ no-lowest); first = e; opens = n }
 
     -- the tasks are visited from 0 on: the first that is open, or none

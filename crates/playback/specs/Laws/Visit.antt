@@ -11,6 +11,7 @@ use lib.Seq.{getD-set-same, getD-set-other, set-getD}
 use borrow.Author.Tests.{lt-ltb, le-ltb}
 use Rattle.codec.specs.declared.Op.{Op}
 use Rattle.codec.specs.Laws.Zeros.{zeros-at}
+use Rattle.codec.specs.Limit.{maxTasks}
 use Rattle.reader.specs.declared.Limits.{Limits}
 use Rattle.replayer.specs.declared.Run.{Run}
 use Rattle.replayer.specs.declared.TaskRun.{TaskRun}
@@ -34,8 +35,8 @@ Note m b dones x scan at = x .place < at → Ahead m b dones (x .place) (x .end)
 
 -- the notes of all tasks
 pub record Noted (r : Run) (b scans ats : List ℕ) : Type 0 where
-  pub scans-all : length scans ≡ 16
-  pub ats-all : length ats ≡ 16
+  pub scans-all : length scans ≡ maxTasks
+  pub ats-all : length ats ≡ maxTasks
   pub notes : (t : ℕ) → Note (limitsOf r t) b (donesOf (r .runs)) (taskAt (r .runs) t) (getD scans t 0) (getD ats t 0)
 
 -- what is found of a task, and the notes after it
@@ -49,8 +50,8 @@ pub none-more : (r : Run) (b : List ℕ) (t : ℕ) → ((s : ℕ) → s < t → 
 none-more r b t g p s h = elim (ℕ-discrete s t) [ yes e ↦ rw e p | no e ↦ g s (omega (arith, e)) ]
 
 -- at first nothing is noted
-pub noted-none : (r : Run) (b : List ℕ) → Noted r b (replicate 16 0) (replicate 16 0)
-noted-none r b = record { scans-all = refl; ats-all = refl; notes = λ t h. absurd (omega (arith, h, zeros-at 16 t)) }
+pub noted-none : (r : Run) (b : List ℕ) → Noted r b (replicate maxTasks 0) (replicate maxTasks 0)
+noted-none r b = record { scans-all = refl; ats-all = refl; notes = λ t h. absurd (omega (arith, h, zeros-at maxTasks t)) }
 
 module _ (r : Run) (b : List ℕ) (t : ℕ) (x : TaskRun) (m : Limits) (dones scans ats : List ℕ) (w : OneTask r t x m dones) (n : Noted r b scans ats) where
   -- the task's note, by what the code has
@@ -73,7 +74,7 @@ module _ (r : Run) (b : List ℕ) (t : ℕ) (x : TaskRun) (m : Limits) (dones sc
       let e : k ≡ nextOf r b t = look-next r b t x m dones w k l in
       record { ready = rw (lt-ltb _ _ (rw (w .task) at g), ← e); opens = λ op next q. sym e ∙ q; noted = d }
 
-  module _ (f : t < 16) (scan : ℕ) where
+  module _ (f : t < maxTasks) (scan : ℕ) where
     -- a new note of the task
     pub noted-set : (at : ℕ) → Note m b dones x scan at → Noted r b (set scans t scan) (set ats t at)
     noted-set at k = record {
@@ -90,8 +91,8 @@ module _ (r : Run) (b : List ℕ) (t : ℕ) (x : TaskRun) (m : Limits) (dones sc
     noted-scan k = rw (set-getD ats t 0) at (noted-set (getD ats t 0) (λ h. k))
 
 -- a step of a ready task keeps the notes
-module _ (r : Run) (b : List ℕ) (t : ℕ) (op : Op) (next : ℕ) (s : Shaped r) (f : t < 16) (o : nextOf r b t ≡ Open op next) where
-  risen : (u : ℕ) → u < 16 → getD (donesOf (r .runs)) u 0 ≤ getD (donesOf (movedOf r t next .runs)) u 0
+module _ (r : Run) (b : List ℕ) (t : ℕ) (op : Op) (next : ℕ) (s : Shaped r) (f : t < maxTasks) (o : nextOf r b t ≡ Open op next) where
+  risen : (u : ℕ) → u < maxTasks → getD (donesOf (r .runs)) u 0 ≤ getD (donesOf (movedOf r t next .runs)) u 0
   risen u h = rw (dones-at (r .runs) u h, dones-at (movedOf r t next .runs) u h) (elim (ℕ-discrete u t) [
     | yes e ↦ rw e (omega (arith, ap (λ (y : TaskRun). y .done) (moved-own r t next s f)))
     | no e ↦ omega (arith, ap (λ (y : TaskRun). y .done) (moved-other r t next u e))

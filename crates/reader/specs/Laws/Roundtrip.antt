@@ -36,8 +36,8 @@ use Rattle.reader.specs.Parse.{ownersOf, valuesOf, allBelow, sizesOk, on
 
 -- T and N leave room in their fields
 pub record Small (m : Limits) : Type 0 where
-  pub tasks : m .tasks ≤ 16
-  pub objects : m .objects ≤ 256
+  pub tasks : m .tasks ≤ maxTasks
+  pub objects : m .objects ≤ maxObjects
 
 position-ok : (m : Limits) (p : Position) → PositionIn m p → orderingOk m p ≡ true
 unfolding orderingOk
@@ -81,7 +81,7 @@ placed at [] = []
 placed at (es ∷ bodies) =
     record { entries = es; start = bodyStart at; stop = bodyStart at + length (bodyBytes es) } ∷ placed (bodyStart at + length (bodyBytes es)) bodies
 
-section-back : (m : Limits) → Small m → m .own < 16 → (at : ℕ) (es : List Entry) (r : List ℕ) → BodyIn m es
+section-back : (m : Limits) → Small m → m .own < maxTasks → (at : ℕ) (es : List Entry) (r : List ℕ) → BodyIn m es
     → sectionAt m at (section (m .own) (length es) (length (bodyBytes es)) ++ (bodyBytes es ++ r))
     ≡ read (record { entries = es; start = bodyStart at; stop = bodyStart at + length (bodyBytes es) })
 unfolding sectionAt onSection sectionBody taken
@@ -97,7 +97,7 @@ section-back m s o at es r i =
       eq-eqb (length es) (length es) refl,
     )
 
-sections-back : (tasks objects : ℕ) → tasks ≤ 16 → objects ≤ 256 → (t at : ℕ) (bodies : List (List Entry)) → t + length bodies ≤ 16
+sections-back : (tasks objects : ℕ) → tasks ≤ maxTasks → objects ≤ maxObjects → (t at : ℕ) (bodies : List (List Entry)) → t + length bodies ≤ maxTasks
     → BodiesIn tasks objects t bodies → sectionsOf tasks objects (length bodies) t at (sectionsBytes t bodies) ≡ read (placed at bodies)
 unfolding sectionsOf sectionsBytes placed
 sections-back tasks objects ht ho t at [] h i = refl
@@ -136,7 +136,7 @@ unfolding allBelow
 under-below n [] i = refl
 under-below n (x ∷ l) i = rw (lt-ltb x n (i .0)) (under-below n l (i .1))
 
-sizes-ok : (t n : ℕ) → 1 ≤ t → t ≤ 16 → 1 ≤ n → n ≤ 256 → sizesOk t n ≡ true
+sizes-ok : (t n : ℕ) → 1 ≤ t → t ≤ maxTasks → 1 ≤ n → n ≤ maxObjects → sizesOk t n ≡ true
 unfolding sizesOk
 sizes-ok t n a b c d = rw (within-test 1 maxTasks t a b, within-test 1 maxObjects n c d)
 

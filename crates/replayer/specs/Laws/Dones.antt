@@ -3,10 +3,11 @@ use mathlib.Core.Path.{_≡_}
 use mathlib.Core.List.{List}
 use Prim.Native.Nat.{ℕ, _<_}
 use lib.ListN.{getD}
+use Rattle.codec.specs.Limit.{maxTasks}
 use Rattle.replayer.specs.declared.TaskRun.{TaskRun}
 use Rattle.replayer.specs.Laws.Each.{each-at}
 use Rattle.replayer.specs.Run.{doneOf}
 use Rattle.replayer.specs.Dones.{donesOf}
 
-pub dones-at : (runs : List TaskRun) (t : ℕ) → t < 16 → getD (donesOf runs) t 0 ≡ doneOf runs t
-dones-at runs t h = each-at (doneOf runs) 16 t 0 h
+pub dones-at : (runs : List TaskRun) (t : ℕ) → t < maxTasks → getD (donesOf runs) t 0 ≡ doneOf runs t
+dones-at runs t h = each-at (doneOf runs) maxTasks t 0 h

@@ -6,6 +6,7 @@ use Prim.Native.Nat.{ℕ, _+_, _<_}
 use native.Mathlib.Omega.{arith}
 use lib.ListN.{length, getD, drop}
 use Rattle.codec.specs.Number.{inBody}
+use Rattle.codec.specs.Limit.{maxTasks}
 use Rattle.reader.specs.declared.Limits.{Limits}
 use Rattle.reader.specs.Laws.Bodies.{parse-bodies}
 use Rattle.reader.specs.Body.{bodyEntries}
@@ -73,7 +74,7 @@ module _ (r : Run) (b : List ℕ) (t : ℕ) where
   left-entry e es h = left-first (limitsOf r t) (taskAt (r .runs) t) b e es h .entry
 
   -- a step of the task takes it off
-  pub left-own : (e : Entry) (es : List Entry) → Shaped r → t < 16 → Left r b t (e ∷ es) → Left (movedOf r t (taskAt (r .runs) t .place + entryLength e)) b t es
+  pub left-own : (e : Entry) (es : List Entry) → Shaped r → t < maxTasks → Left r b t (e ∷ es) → Left (movedOf r t (taskAt (r .runs) t .place + entryLength e)) b t es
   unfolding movedOf
   left-own e es s k h = rw (moved-own r t (taskAt (r .runs) t .place + entryLength e) s k) (left-first (limitsOf r t) (taskAt (r .runs) t) b e es h .rest)
 

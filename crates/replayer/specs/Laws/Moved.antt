@@ -5,20 +5,21 @@ use native.Mathlib.Omega.{arith}
 use native.Mathlib.Decide.{ℕ-discrete}
 use lib.ListN.{length, length-set}
 use lib.Seq.{getD-set-same, getD-set-other}
+use Rattle.codec.specs.Limit.{maxTasks}
 use Rattle.replayer.specs.declared.Run.{Run}
 use Rattle.replayer.specs.Run.{blankTask, taskAt, advanced, movedOf}
 use Rattle.replayer.specs.Laws.Sound.{Sound}
 
 -- the list's length, which the run's type fixes
 abbrev pub Shaped : Run → Type 0
-Shaped r = length (r .runs) ≡ 16
+Shaped r = length (r .runs) ≡ maxTasks
 
 module _ (r : Run) (t next : ℕ) where
   pub moved-shaped : Shaped r → Shaped (movedOf r t next)
   unfolding movedOf
   moved-shaped h = length-set (r .runs) t (advanced (taskAt (r .runs) t) next) ∙ h
 
-  pub moved-own : Shaped r → t < 16 → taskAt (movedOf r t next .runs) t ≡ advanced (taskAt (r .runs) t) next
+  pub moved-own : Shaped r → t < maxTasks → taskAt (movedOf r t next .runs) t ≡ advanced (taskAt (r .runs) t) next
   unfolding movedOf
   moved-own h k = getD-set-same (r .runs) t (advanced (taskAt (r .runs) t) next) blankTask (omega arith)
 

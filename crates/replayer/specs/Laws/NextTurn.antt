@@ -10,6 +10,7 @@ use Rattle.codec.specs.declared.Op.{Op}
 use Rattle.codec.specs.declared.Position.{Position}
 use Rattle.codec.specs.Laws.Decide.{passes, fails, split}
 use Rattle.codec.specs.Number.{inBody, misplaced}
+use Rattle.codec.specs.Limit.{maxTasks}
 use Rattle.reader.specs.declared.Checked.{Checked}
 use Rattle.reader.specs.declared.Limits.{Limits}
 use Rattle.reader.specs.declared.entry.Found.{Found}
@@ -36,13 +37,13 @@ use Rattle.replayer.specs.Next.{judged, isOpen}
 use Rattle.replayer.specs.Run.{doneOf}
 use Rattle.replayer.specs.NextTurn.{DoneAll, Ahead}
 
-done-at : (dones : List ℕ) (runs : List TaskRun) → donesOf runs ≡ dones → (s : ℕ) → s < 16 → getD dones s 0 ≡ doneOf runs s
+done-at : (dones : List ℕ) (runs : List TaskRun) → donesOf runs ≡ dones → (s : ℕ) → s < maxTasks → getD dones s 0 ≡ doneOf runs s
 done-at dones runs e s h = rw (← e) (dones-at runs s h)
 
 pub done-all : (dones : List ℕ) (runs : List TaskRun) → donesOf runs ≡ dones → DoneAll dones runs
 done-all dones runs e s h = omega (arith, done-at dones runs e s h)
 
-pub ahead-later : (m : Limits) (b dones later : List ℕ) (from end place at : ℕ) → ((s : ℕ) → s < 16 → getD dones s 0 ≤ getD later s 0)
+pub ahead-later : (m : Limits) (b dones later : List ℕ) (from end place at : ℕ) → ((s : ℕ) → s < maxTasks → getD dones s 0 ≤ getD later s 0)
     → Ahead m b dones from end place at → Ahead m b later from end place at
 ahead-later m b dones later from end place at g w = record {
   few = w .few;
@@ -79,7 +80,7 @@ module _ (runs : List TaskRun) (place : ℕ) (p : Position) (e : Entry) where
 -- an ordering stands at a place: met, the rest is still ahead, and not met it holds the task
 pub record Passing (m : Limits) (b dones : List ℕ) (from end place at : ℕ) (p : Position) : Type 0 where
   pub room : place + 8 ≤ length b
-  pub below : p .task < 16
+  pub below : p .task < maxTasks
   pub met : p .number ≤ getD dones (p .task) 0 → Ahead m b dones from end (place + 8) at
   pub unmet : getD dones (p .task) 0 < p .number → Looks dones from (groupAt m b from end) Held
 
@@ -92,7 +93,7 @@ module _ (m : Limits) (b dones : List ℕ) (from end place at : ℕ) (w : Ahead 
 
   passing : (x : More m place (part place end b) (w .entry)) → Passing m b dones from end place at (x .first)
   passing x =
-      let i : x .first .task < 16 = omega (arith, x .below, w .few) in
+      let i : x .first .task < maxTasks = omega (arith, x .below, w .few) in
       let q : groupAt m b place end ≡ read (record { orderings = x .first ∷ x .rest .orderings; op = x .rest .op }) = w .reads ∙ ap read (x .same) in
       let y : groupAt m b (place + 8) end ≡ read (x .rest) = entry-ended m (stop misplaced place) _ (place + 8) _ (x .rest) (rw (part-drop 8 place end b) at (x .reads)) in
       record {
@@ -140,7 +141,7 @@ module _ (m : Limits) (b dones : List ℕ) (from end : ℕ) (f : Found) (e : f �
   next-refused c q = λ runs h. rw (found-refused from (groupAt m b from end) c (sym e ∙ q))
 
   module _ (o : Op) (a n : ℕ) (q : f ≡ FoundAccess o a n) where
-    pub ahead-start : m .tasks ≤ 16 → end ≤ length b → Ahead m b dones from end from a
+    pub ahead-start : m .tasks ≤ maxTasks → end ≤ length b → Ahead m b dones from end from a
     ahead-start h l =
         let w = found-entry from (groupAt m b from end) o a n (sym e ∙ q) in
         record { few = h; within = l; entry = w .entry; reads = w .reads; stands = w .place; same = λ runs d. refl }

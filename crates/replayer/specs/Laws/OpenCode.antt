@@ -19,6 +19,7 @@ use Rattle.reader.specs.Reading.{Reading, refused, read}
 use Rattle.reader.specs.Starting.{startingIn}
 use Rattle.reader.specs.Laws.Starting.{starting-there}
 use Rattle.codec.specs.Number.{entries as wrongLength}
+use Rattle.codec.specs.Limit.{maxTasks}
 use Rattle.replayer.specs.Run.{blankTasks}
 use Rattle.replayer.specs.Laws.OpenOf.{starts-length}
 use Rattle.replayer.specs.OpenOf.{startOf, startsOf, begunOf, refusedOpen, onParse, openOf}
@@ -33,13 +34,13 @@ unfolding startsOf
 starts-more spans n = rw add-one
 
 -- no task at 16 or above is set
-pub starts-clipped : (spans : List Span) (n : ℕ) → startsOf spans (min n 16) ≡ startsOf spans n
+pub starts-clipped : (spans : List Span) (n : ℕ) → startsOf spans (min n maxTasks) ≡ startsOf spans n
 starts-clipped spans n = elim (decLt n 17) [
-  | yes h ↦ let e : min n 16 ≡ n = omega arith in rw e
-  | no h ↦ let e : min n 16 ≡ 16 = omega (arith, h) in let f : n ≡ 16 + (n - 16) = omega (arith, h) in rw e (rw f (sym (beyond (n - 16))))
+  | yes h ↦ let e : min n maxTasks ≡ n = omega arith in rw e
+  | no h ↦ let e : min n maxTasks ≡ maxTasks = omega (arith, h) in let f : n ≡ 16 + (n - 16) = omega (arith, h) in rw e (rw f (sym (beyond (n - 16))))
 ]
   where
-    beyond : (k : ℕ) → startsOf spans (16 + k) ≡ startsOf spans 16
+    beyond : (k : ℕ) → startsOf spans (16 + k) ≡ startsOf spans maxTasks
     beyond zero = refl
     beyond (suc k) =
         let e : 16 + suc k ≡ (16 + k) + 1 = omega arith in

@@ -20,18 +20,19 @@ use Rattle.reader.specs.Reading.{Reading, refused, read}
 use Rattle.reader.specs.Laws.Standing.{Standing, parse-stands}
 use Rattle.replayer.specs.declared.TaskRun.{TaskRun}
 use Rattle.codec.specs.Number.{entries as wrongLength}
+use Rattle.codec.specs.Limit.{maxTasks}
 use Rattle.replayer.specs.Run.{blankTask, blankTasks, taskAt, doneOf}
 use Rattle.replayer.specs.Sound.{soundOf}
 use Rattle.replayer.specs.Laws.Sound.{sound-test}
 use Rattle.replayer.specs.Laws.Moved.{Shaped}
 use Rattle.replayer.specs.OpenOf.{startOf, startsOf, openedRun, onParse, openOf}
 
-pub starts-length : (spans : List Span) (n : ℕ) → length (startsOf spans n) ≡ 16
+pub starts-length : (spans : List Span) (n : ℕ) → length (startsOf spans n) ≡ maxTasks
 unfolding startsOf
 starts-length spans zero = refl
 starts-length spans (suc n) = length-set (startsOf spans n) n (startOf (getD spans n noSpan)) ∙ starts-length spans n
 
-starts-at : (spans : List Span) (n t : ℕ) → n ≤ 16 → t < n → taskAt (startsOf spans n) t ≡ startOf (getD spans t noSpan)
+starts-at : (spans : List Span) (n t : ℕ) → n ≤ maxTasks → t < n → taskAt (startsOf spans n) t ≡ startOf (getD spans t noSpan)
 unfolding startsOf
 starts-at spans zero t h k = absurd (omega arith)
 starts-at spans (suc n) t h k = elim (ℕ-discrete t n) [
@@ -44,8 +45,8 @@ beyond : (runs : List TaskRun) (t : ℕ) → length runs ≤ t → doneOf runs t
 beyond runs t h = ap (λ (x : TaskRun). x .done) (List·getD-eq-default runs blankTask h)
 
 blank-done : (t : ℕ) → doneOf blankTasks t ≡ 0
-blank-done t = elim (decLt t 16) [
-  | yes h ↦ ap (λ (x : TaskRun). x .done) (getD-replicate 16 t blankTask blankTask h)
+blank-done t = elim (decLt t maxTasks) [
+  | yes h ↦ ap (λ (x : TaskRun). x .done) (getD-replicate maxTasks t blankTask blankTask h)
   | no h ↦ beyond blankTasks t (omega (arith, h))
 ]
 
@@ -56,7 +57,7 @@ starts-done spans (suc n) t =
     let l = length-set (startsOf spans n) n (startOf (getD spans n noSpan)) ∙ starts-length spans n in
     elim (ℕ-discrete t n) [
       | no e ↦ ap (λ (x : TaskRun). x .done) (getD-set-other (startsOf spans n) n t (startOf (getD spans n noSpan)) blankTask e) ∙ starts-done spans n t
-      | yes e ↦ elim (decLt n 16) [
+      | yes e ↦ elim (decLt n maxTasks) [
         | yes h ↦ rw e (ap (λ (x : TaskRun). x .done) (getD-set-same (startsOf spans n) n (startOf (getD spans n noSpan)) blankTask (omega (arith, starts-length spans n))))
         | no h ↦ beyond (set (startsOf spans n) n (startOf (getD spans n noSpan))) t (omega (arith, h))
       ]

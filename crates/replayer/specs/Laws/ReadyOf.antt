@@ -9,6 +9,7 @@ use lib.ListN.{length}
 use Rattle.codec.specs.Laws.Decide.{passes, fails, split}
 use Rattle.replayer.specs.declared.Run.{Run}
 use Rattle.codec.specs.Number.{unsound}
+use Rattle.codec.specs.Limit.{maxTasks}
 use Rattle.replayer.specs.Sound.{soundOf}
 use Rattle.replayer.specs.Laws.Sound.{sound-facts}
 use Rattle.replayer.specs.ReadyOf.{isReady, readyOf}
@@ -43,7 +44,7 @@ pub record ReadySet (r : Run) (b : List ℕ) : Type 0 where
   pub bit : (t : ℕ) → t < r .tasks → hasBit (readyOf r b .word) t ≡ isReady r b t
   pub above : (t : ℕ) → r .tasks ≤ t → hasBit (readyOf r b .word) t ≡ false
   pub count : readyCount (readyOf r b .word) ≡ countOf (isReady r b) 0 (r .tasks)
-  pub lowest : LowestIs 16 (isReady r b) 0 (r .tasks) (lowestReady (readyOf r b .word))
+  pub lowest : LowestIs maxTasks (isReady r b) 0 (r .tasks) (lowestReady (readyOf r b .word))
 
 word-facts : (f : ℕ → Bool) (n t : ℕ) → t < n → hasBit (wordOf f 0 n) t ≡ f t
 word-facts f n t h = let e : 0 + t ≡ t = omega arith in rw e at (word-bit f 0 n t h)
@@ -57,7 +58,7 @@ ready-word r b s =
       bit = λ t h. rw s (word-facts (isReady r b) (r .tasks) t h);
       above = λ t h. rw s (word-above (isReady r b) 0 (r .tasks) t h);
       count = rw s (word-count (isReady r b) (r .tasks) f);
-      lowest = rw (s, word-lowest (isReady r b) (r .tasks) f) (lowest-is 16 (isReady r b) 0 (r .tasks) f);
+      lowest = rw (s, word-lowest (isReady r b) (r .tasks) f) (lowest-is maxTasks (isReady r b) 0 (r .tasks) f);
     }
 
 pub ready-unsound : (r : Run) (b : List ℕ) → soundOf r (length b) ≡ false → readyOf r b ≡ record { number = unsound; word = 0 }

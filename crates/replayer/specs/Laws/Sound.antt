@@ -21,9 +21,9 @@ pub record SoundTask (size : ℕ) (x : TaskRun) : Type 0 where
 
 pub record Sound (r : Run) (size : ℕ) : Type 0 where
   pub some-tasks : 1 ≤ r .tasks
-  pub few-tasks : r .tasks ≤ 16
+  pub few-tasks : r .tasks ≤ maxTasks
   pub some-objects : 1 ≤ r .objects
-  pub few-objects : r .objects ≤ 256
+  pub few-objects : r .objects ≤ maxObjects
   pub task : (t : ℕ) → t < r .tasks → SoundTask size (taskAt (r .runs) t)
 
 task-facts : (size : ℕ) (x : TaskRun) → taskSound size x ≡ true → SoundTask size x

@@ -5,6 +5,7 @@ use Prim.Native.Nat.{ℕ, _+_, _<_}
 use native.Mathlib.Omega.{arith}
 use lib.ListN.{length-set}
 use lib.Seq.{getD-set-same, getD-set-other}
+use Rattle.codec.specs.Limit.{maxTasks, maxObjects}
 use Rattle.tracker.specs.State.{doneOf, seenOf, tookOf, localityOf, owned}
 use Rattle.tracker.specs.Laws.State.{Shaped}
 use Rattle.tracker.specs.Row.{rowAt}
@@ -30,21 +31,21 @@ module _ (s : State) (task object : ℕ) (write : Bool) where
     took = rw length-set (l .took);
   }
 
-  pub next-done : Shaped s → task < 16 → doneOf (stateAfter s task object write) task ≡ doneOf s task + 1
+  pub next-done : Shaped s → task < maxTasks → doneOf (stateAfter s task object write) task ≡ doneOf s task + 1
   unfolding stateAfter
   next-done l h = getD-set-same (s .done) task (numberNow s task) 0 (omega (arith, l .done))
 
-  pub next-locality : Shaped s → object < 256 →
+  pub next-locality : Shaped s → object < maxObjects →
       localityOf (stateAfter s task object write) object ≡ localityAfter (rowAt s task object write) s task (localityOf s object)
   unfolding stateAfter
   next-locality l h = ap (λ (r : ObjectRecord). r .locality) (getD-set-same (s .records) object _ (owned 0) (omega (arith, l .records)))
 
-  pub next-seen : Shaped s → task < 16 →
+  pub next-seen : Shaped s → task < maxTasks →
       seenOf (stateAfter s task object write) task ≡ effectOf (rowAt s task object write) s task (localityOf s object) .seen
   unfolding stateAfter
   next-seen l h = getD-set-same (s .seen) task _ 0 (omega (arith, l .seen))
 
-  pub next-took : Shaped s → task < 16 →
+  pub next-took : Shaped s → task < maxTasks →
       tookOf (stateAfter s task object write) task ≡ effectOf (rowAt s task object write) s task (localityOf s object) .took
   unfolding stateAfter
   next-took l h = getD-set-same (s .took) task _ 0 (omega (arith, l .took))

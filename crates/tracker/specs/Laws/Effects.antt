@@ -5,6 +5,7 @@ use mathlib.Core.Path.{_≡_}
 use Prim.Native.Nat.{ℕ, _+_, _≤_, _<_}
 use native.Mathlib.Omega.{arith}
 use native.Mathlib.Decide.{ℕ-discrete}
+use Rattle.codec.specs.Limit.{maxTasks}
 use Rattle.history.specs.Entry.{Entry}
 use Rattle.history.specs.History.{History, count}
 use Rattle.tracker.specs.State.{doneOf, seenOf, tookOf, localityOf}
@@ -25,7 +26,7 @@ pub record Leaves (s : State) (task : ℕ) (effect : Effect) (after : State) : T
   pub other-seen : (other : ℕ) → (other ≡ task → ⊥) → seenOf after other ≡ seenOf s other
   pub other-took : (other : ℕ) → (other ≡ task → ⊥) → tookOf after other ≡ tookOf s other
 
-pub next-leaves : (s : State) (task object : ℕ) (write : Bool) → Shaped s → task < 16
+pub next-leaves : (s : State) (task object : ℕ) (write : Bool) → Shaped s → task < maxTasks
     → Leaves s task (effectOf (rowAt s task object write) s task (localityOf s object)) (stateAfter s task object write)
 next-leaves s task object write shaped low = record {
   tasks = next-tasks s task object write;

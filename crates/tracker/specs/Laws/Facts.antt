@@ -9,7 +9,7 @@ use lib.Dec.{eqb, leb, ltb}
 use lib.ListN.{getD}
 use Rattle.codec.specs.declared.Position.{Position}
 use Rattle.tracker.specs.State.{doneOf, seenOf, tookOf, localityOf, holderOf, shareOf}
-use Rattle.codec.specs.Limit.{isWithin}
+use Rattle.codec.specs.Limit.{isWithin, maxTasks, maxObjects, maxAccesses}
 use Rattle.codec.specs.Laws.Limit.{within-facts, within-test}
 use Rattle.tracker.specs.Range.{allBelow}
 use Rattle.tracker.specs.Laws.Range.{all-at, all-from}
@@ -25,7 +25,7 @@ pub record LastBounds (last : Position) (tasks shares : ℕ) (done : List ℕ) :
   pub reached : last .number ≤ getD done (last .task) 0
 
 pub record TaskBounds (done seen took shares : ℕ) : Type 0 where
-  pub done-fits : done ≤ 65535
+  pub done-fits : done ≤ maxAccesses
   pub seen-low : seen ≤ shares
   pub took-low : took ≤ done
 
@@ -36,9 +36,9 @@ pub record ObjectBounds (l : Locality) (tasks shares : ℕ) : Type 0 where
 
 pub record Sound (s : State) : Type 0 where
   pub some-task : 1 ≤ s .tasks
-  pub tasks-fit : s .tasks ≤ 16
+  pub tasks-fit : s .tasks ≤ maxTasks
   pub some-object : 1 ≤ s .objects
-  pub objects-fit : s .objects ≤ 256
+  pub objects-fit : s .objects ≤ maxObjects
   pub last : LastBounds (s .last) (s .tasks) (s .shares) (s .done)
   pub counted : s .shares ≤ sumOf (s .done) (s .tasks)
   pub task : (i : ℕ) → i < s .tasks → TaskBounds (doneOf s i) (seenOf s i) (tookOf s i) (s .shares)
@@ -47,10 +47,10 @@ pub record Sound (s : State) : Type 0 where
 pub task-facts : (done seen took shares : ℕ) → taskSound done seen took shares ≡ true → TaskBounds done seen took shares
 unfolding taskSound
 task-facts done seen took shares e =
-    let a = and-eq-true-iff (leb done 65535 && leb seen shares) (leb took done) .0 e in
-    let b = and-eq-true-iff (leb done 65535) (leb seen shares) .0 (a .0) in
+    let a = and-eq-true-iff (leb done maxAccesses && leb seen shares) (leb took done) .0 e in
+    let b = and-eq-true-iff (leb done maxAccesses) (leb seen shares) .0 (a .0) in
     record {
-      done-fits = leb-true done 65535 (b .0);
+      done-fits = leb-true done maxAccesses (b .0);
       seen-low = leb-true seen shares (b .1);
       took-low = leb-true took done (a .1);
     }
@@ -58,7 +58,7 @@ task-facts done seen took shares e =
 task-test : (done seen took shares : ℕ) → TaskBounds done seen took shares → taskSound done seen took shares ≡ true
 unfolding taskSound
 task-test done seen took shares f =
-    rw (le-leb done 65535 (f .done-fits), le-leb seen shares (f .seen-low), le-leb took done (f .took-low))
+    rw (le-leb done maxAccesses (f .done-fits), le-leb seen shares (f .seen-low), le-leb took done (f .took-low))
 
 last-facts : (p : Position) (tasks shares : ℕ) (done : List ℕ) → lastSound p tasks shares done ≡ true → LastBounds p tasks shares done
 unfolding lastSound
@@ -130,17 +130,17 @@ object-test (ReadShared share) tasks shares f = within-test 1 shares share (f .s
 pub sound-facts : (s : State) → soundOf s ≡ true → Sound s
 unfolding soundOf tasksSound
 sound-facts s e =
-    let ranges = isWithin 1 16 (s .tasks) && isWithin 1 256 (s .objects) in
+    let ranges = isWithin 1 maxTasks (s .tasks) && isWithin 1 maxObjects (s .objects) in
     let last = lastSound (s .last) (s .tasks) (s .shares) (s .done) in
     let every = allBelow (taskSoundAt (s .done) (s .seen) (s .took) (s .shares)) (s .tasks) in
     let counted = leb (s .shares) (sumOf (s .done) (s .tasks)) in
     let a = and-eq-true-iff (ranges && last && (every && counted)) (allBelow (objectSoundAt s) (s .objects)) .0 e in
     let b = and-eq-true-iff (ranges && last) (every && counted) .0 (a .0) in
     let c = and-eq-true-iff ranges last .0 (b .0) in
-    let d = and-eq-true-iff (isWithin 1 16 (s .tasks)) (isWithin 1 256 (s .objects)) .0 (c .0) in
+    let d = and-eq-true-iff (isWithin 1 maxTasks (s .tasks)) (isWithin 1 maxObjects (s .objects)) .0 (c .0) in
     let t = and-eq-true-iff every counted .0 (b .1) in
-    let tasks = within-facts 1 16 (s .tasks) (d .0) in
-    let objects = within-facts 1 256 (s .objects) (d .1) in
+    let tasks = within-facts 1 maxTasks (s .tasks) (d .0) in
+    let objects = within-facts 1 maxObjects (s .objects) (d .1) in
     record {
       some-task = tasks .0;
       tasks-fit = tasks .1;
@@ -156,8 +156,8 @@ pub sound-test : (s : State) → Sound s → soundOf s ≡ true
 unfolding soundOf tasksSound
 sound-test s f =
     rw (
-      within-test 1 16 (s .tasks) (f .some-task) (f .tasks-fit),
-      within-test 1 256 (s .objects) (f .some-object) (f .objects-fit),
+      within-test 1 maxTasks (s .tasks) (f .some-task) (f .tasks-fit),
+      within-test 1 maxObjects (s .objects) (f .some-object) (f .objects-fit),
       last-test (s .last) (s .tasks) (s .shares) (s .done) (f .last),
       all-from (taskSoundAt (s .done) (s .seen) (s .took) (s .shares)) (s .tasks) (λ (i : ℕ) (h : i < s .tasks). task-test _ _ _ _ (f .task i h)),
       le-leb (s .shares) (sumOf (s .done) (s .tasks)) (f .counted),

@@ -8,6 +8,7 @@ use borrow.Author.Tests.{eqb-true, eqb-false}
 use lib.Dec.{eqb}
 use lib.ListN.{length, getD, set}
 use lib.Seq.{getD-set-same, getD-set-other}
+use Rattle.codec.specs.Limit.{maxAccesses}
 use Rattle.tracker.specs.State.{doneOf, seenOf, localityOf, owned}
 use Rattle.tracker.specs.Laws.State.{Shaped}
 use Rattle.tracker.specs.Row.{rowAt}
@@ -28,7 +29,7 @@ use Rattle.tracker.specs.declared.State.{State}
 pub record Accepts (s : State) (task object : ℕ) : Type 0 where
   pub task-low : task < s .tasks
   pub object-low : object < s .objects
-  pub more : doneOf s task < 65535
+  pub more : doneOf s task < maxAccesses
 
 -- no index and no number of an accepted access is out of range
 pub sound-admits : (s : State) (task object : ℕ) → Sound s → Accepts s task object → Admits (countersOf s) (localityOf s object) task
@@ -75,7 +76,7 @@ module _ (s : State) (task : ℕ) (shaped : Shaped s) (sound : Sound s) (low : t
       (λ (e : i ≡ task). rw e (omega arith)) (λ (n : i ≡ task → ⊥). omega arith)
 
   -- the tasks' entries after an access
-  task-after : (e : Effect) (l : Locality) → doneOf s task < 65535 → Keeps s task l e → (i : ℕ) → i < s .tasks →
+  task-after : (e : Effect) (l : Locality) → doneOf s task < maxAccesses → Keeps s task l e → (i : ℕ) → i < s .tasks →
       TaskBounds (getD (set (s .done) task (numberNow s task)) i 0) (getD (set (s .seen) task (e .seen)) i 0)
       (getD (set (s .took) task (e .took)) i 0) (e .shares)
   task-after e l more k i h = cases (eqb i task) refl
@@ -104,7 +105,7 @@ module _ (s : State) (task : ℕ) (shaped : Shaped s) (sound : Sound s) (low : t
             took-low = sound .task i h .took-low;
           }
 
-  stepped-sound : (object : ℕ) (l : Locality) (e : Effect) → object < s .objects → doneOf s task < 65535 → Keeps s task l e →
+  stepped-sound : (object : ℕ) (l : Locality) (e : Effect) → object < s .objects → doneOf s task < maxAccesses → Keeps s task l e →
       Sound (stepped s task object l e)
   stepped-sound object l e h more k = record {
     some-task = sound .some-task;

@@ -10,6 +10,7 @@ use lib.Dec.{eqb}
 use borrow.Author.Tests.{ne-eqb}
 use Rattle.codec.specs.declared.Position.{Position}
 use Rattle.codec.specs.Laws.Decide.{never}
+use Rattle.codec.specs.Limit.{maxTasks}
 use Rattle.history.specs.Entry.{Act, Entry, touches, writes, conflicts}
 use Rattle.history.specs.History.{History, count, At, here, there}
 use Rattle.history.specs.Laws.History.{count-own, count-other}
@@ -58,7 +59,7 @@ module _ (s : State) (task object : ℕ) (write : Bool) (value held : ℕ) where
   full = orderingsOf (rowAt s task object write) s (localityOf s object)
 
   module _ {h : History} (i : Invariant s h) (a : Accepts s task object) where
-    task-fits : task < 16
+    task-fits : task < maxTasks
     task-fits = omega (arith, a .task-low, i .sound .tasks-fit)
 
     -- they were met when the access was made

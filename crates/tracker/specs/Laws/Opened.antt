@@ -10,6 +10,7 @@ use native.Mathlib.Omega.{arith}
 use lib.ListN.{length, getD, set, replicate, length-set, length-replicate}
 use lib.Seq.{getD-set-same, getD-set-other}
 use Rattle.codec.specs.Laws.Zeros.{zeros-at}
+use Rattle.codec.specs.Limit.{maxTasks, maxObjects}
 use Rattle.tracker.specs.State.{owned, doneOf, localityOf}
 use Rattle.tracker.specs.Laws.State.{Shaped}
 use Rattle.tracker.specs.Sound.{soundOf}
@@ -21,12 +22,12 @@ use Rattle.tracker.specs.Opened.{ownedRecords, openedState}
 -- what the number table asks of an opening: 1, 2 and 4
 pub record Opens (tasks objects : ℕ) (owners : List ℕ) : Type 0 where
   pub some-task : 1 ≤ tasks
-  pub tasks-fit : tasks ≤ 16
+  pub tasks-fit : tasks ≤ maxTasks
   pub some-object : 1 ≤ objects
-  pub objects-fit : objects ≤ 256
+  pub objects-fit : objects ≤ maxObjects
   pub owners-low : (object : ℕ) → object < objects → getD owners object 0 < tasks
 
-pub records-none : (owners : List ℕ) → ownedRecords owners 0 ≡ replicate 256 (owned 0)
+pub records-none : (owners : List ℕ) → ownedRecords owners 0 ≡ replicate maxObjects (owned 0)
 unfolding ownedRecords
 records-none owners = refl
 
@@ -35,12 +36,12 @@ pub records-more : (owners : List ℕ) (n : ℕ) →
 unfolding ownedRecords
 records-more owners n = rw add-one
 
-records-length : (owners : List ℕ) (n : ℕ) → length (ownedRecords owners n) ≡ 256
+records-length : (owners : List ℕ) (n : ℕ) → length (ownedRecords owners n) ≡ maxObjects
 unfolding ownedRecords
-records-length owners zero = length-replicate 256 (owned 0)
+records-length owners zero = length-replicate maxObjects (owned 0)
 records-length owners (suc n) = rw length-set (records-length owners n)
 
-records-at : (owners : List ℕ) (n o : ℕ) → n ≤ 256 → o < n → getD (ownedRecords owners n) o (owned 0) ≡ owned (getD owners o 0)
+records-at : (owners : List ℕ) (n o : ℕ) → n ≤ maxObjects → o < n → getD (ownedRecords owners n) o (owned 0) ≡ owned (getD owners o 0)
 unfolding ownedRecords
 records-at owners zero o h k = absurd (let z : ⊥ = omega arith in z)
 records-at owners (suc n) o h k =
@@ -66,15 +67,15 @@ opened-objects tasks objects owners = refl
 -- no access is made yet
 pub opened-done : (tasks objects : ℕ) (owners : List ℕ) (task : ℕ) → doneOf (openedState tasks objects owners) task ≡ 0
 unfolding openedState
-opened-done tasks objects owners task = zeros-at 16 task
+opened-done tasks objects owners task = zeros-at maxTasks task
 
-pub opened-owner : (tasks objects : ℕ) (owners : List ℕ) (o : ℕ) → objects ≤ 256 → o < objects →
+pub opened-owner : (tasks objects : ℕ) (owners : List ℕ) (o : ℕ) → objects ≤ maxObjects → o < objects →
     localityOf (openedState tasks objects owners) o ≡ WriteExclusive (getD owners o 0)
 unfolding openedState
 opened-owner tasks objects owners o h k = ap (λ (r : ObjectRecord). r .locality) (records-at owners objects o h k)
 
 -- an opening with T, N and the owners in range is sound
-pub opened-facts : (tasks objects : ℕ) (owners : List ℕ) → 1 ≤ tasks → tasks ≤ 16 → 1 ≤ objects → objects ≤ 256 →
+pub opened-facts : (tasks objects : ℕ) (owners : List ℕ) → 1 ≤ tasks → tasks ≤ maxTasks → 1 ≤ objects → objects ≤ maxObjects →
     ((o : ℕ) → o < objects → getD owners o 0 < tasks) → Sound (openedState tasks objects owners)
 unfolding openedState
 opened-facts tasks objects owners some-task tasks-fit some-object objects-fit low = record {
@@ -88,10 +89,10 @@ opened-facts tasks objects owners some-task tasks-fit some-object objects-fit lo
   object = λ o h. rw (opened-owner tasks objects owners o objects-fit h) (writer-bounds tasks 0 (getD owners o 0) (low o h));
 }
   where
-    zeros : (i : ℕ) → TaskBounds (getD (replicate 16 0) i 0) (getD (replicate 16 0) i 0) (getD (replicate 16 0) i 0) 0
-    zeros i = rw (zeros-at 16 i) record { done-fits = omega arith; seen-low = omega arith; took-low = omega arith }
+    zeros : (i : ℕ) → TaskBounds (getD (replicate maxTasks 0) i 0) (getD (replicate maxTasks 0) i 0) (getD (replicate maxTasks 0) i 0) 0
+    zeros i = rw (zeros-at maxTasks i) record { done-fits = omega arith; seen-low = omega arith; took-low = omega arith }
 
-pub opened-sound : (tasks objects : ℕ) (owners : List ℕ) → 1 ≤ tasks → tasks ≤ 16 → 1 ≤ objects → objects ≤ 256 →
+pub opened-sound : (tasks objects : ℕ) (owners : List ℕ) → 1 ≤ tasks → tasks ≤ maxTasks → 1 ≤ objects → objects ≤ maxObjects →
     ((o : ℕ) → o < objects → getD owners o 0 < tasks) → soundOf (openedState tasks objects owners) ≡ true
 opened-sound tasks objects owners some-task tasks-fit some-object objects-fit low =
     sound-test _ (opened-facts tasks objects owners some-task tasks-fit some-object objects-fit low)

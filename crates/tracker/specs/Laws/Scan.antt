@@ -6,7 +6,7 @@ use native.Mathlib.Numerals.{add-one}
 use native.Mathlib.Omega.{arith}
 use Rattle.codec.specs.Laws.Decide.{passes, fails, split}
 use Rattle.tracker.specs.Laws.Counters.{countersOf}
-use Rattle.codec.specs.Limit.{isWithin}
+use Rattle.codec.specs.Limit.{isWithin, maxTasks, maxObjects}
 use Rattle.codec.specs.Laws.Limit.{within-facts}
 use Rattle.tracker.specs.Range.{allBelow}
 use Rattle.tracker.specs.Laws.Range.{all-fails}
@@ -17,17 +17,17 @@ use Rattle.tracker.specs.declared.State.{State}
 -- all but the objects
 unfoldable pub countersSound : Counters → Bool
 countersSound m =
-    isWithin 1 16 (m .tasks) && isWithin 1 256 (m .objects)
+    isWithin 1 maxTasks (m .tasks) && isWithin 1 maxObjects (m .objects)
     && lastSound (m .last) (m .tasks) (m .shares) (m .done)
     && tasksSound (m .tasks) (m .shares) (m .done) (m .seen) (m .took)
 
 -- sound marks keep T and N in range
-pub counters-low : (m : Counters) → countersSound m ≡ true → (m .tasks ≤ 16) × (m .objects ≤ 256)
+pub counters-low : (m : Counters) → countersSound m ≡ true → (m .tasks ≤ maxTasks) × (m .objects ≤ maxObjects)
 unfolding countersSound
 counters-low m e =
-    let a = and-eq-true-iff (isWithin 1 16 (m .tasks) && isWithin 1 256 (m .objects) && lastSound (m .last) (m .tasks) (m .shares) (m .done)) _ .0 e .0 in
-    let b = and-eq-true-iff (isWithin 1 16 (m .tasks)) (isWithin 1 256 (m .objects)) .0 (and-eq-true-iff (isWithin 1 16 (m .tasks) && isWithin 1 256 (m .objects)) _ .0 a .0) in
-    (within-facts 1 16 _ (b .0) .1, within-facts 1 256 _ (b .1) .1)
+    let a = and-eq-true-iff (isWithin 1 maxTasks (m .tasks) && isWithin 1 maxObjects (m .objects) && lastSound (m .last) (m .tasks) (m .shares) (m .done)) _ .0 e .0 in
+    let b = and-eq-true-iff (isWithin 1 maxTasks (m .tasks)) (isWithin 1 maxObjects (m .objects)) .0 (and-eq-true-iff (isWithin 1 maxTasks (m .tasks) && isWithin 1 maxObjects (m .objects)) _ .0 a .0) in
+    (within-facts 1 maxTasks _ (b .0) .1, within-facts 1 maxObjects _ (b .1) .1)
 
 module _ (s : State) where
   -- what is found after n objects
@@ -48,7 +48,7 @@ module _ (s : State) where
   scan-bad n h e = rw (all-fails (objectSoundAt s) (s .objects) n h e) (and-false (countersSound (countersOf s)))
 
   -- all objects that have a record
-  scan-all : soundTo (min (s .objects) 256) ≡ soundOf s
+  scan-all : soundTo (min (s .objects) maxObjects) ≡ soundOf s
   unfolding soundTo soundOf countersSound
   scan-all = elim (split (countersSound (countersOf s))) [
     | passes p ↦ ap (λ (n : ℕ). countersSound (countersOf s) && allBelow (objectSoundAt s) n) (omega (arith, counters-low (countersOf s) p .1))
@@ -56,8 +56,8 @@ module _ (s : State) where
   ]
 
   -- the scan goes up to a number that is told by the marks: what is below it has a record and is an object, and there the scan is over
-  module _ (m : Counters) (e : m ≡ countersOf s) (n : ℕ) (q : n ≡ min (m .objects) 256) where
-    pub scan-low : (i : ℕ) → i < n → (i < 256) × (i < s .objects)
+  module _ (m : Counters) (e : m ≡ countersOf s) (n : ℕ) (q : n ≡ min (m .objects) maxObjects) where
+    pub scan-low : (i : ℕ) → i < n → (i < maxObjects) × (i < s .objects)
     scan-low i h = let o = ap (λ (x : Counters). x .objects) e in (omega arith, omega arith)
 
     pub scan-over : (i : ℕ) → i ≤ n → n ≤ i → soundTo i ≡ soundOf s

@@ -8,6 +8,7 @@ use native.Mathlib.Numerals.{add-one}
 use native.Mathlib.Omega.{arith}
 use lib.ListN.{length, getD, set}
 use lib.Seq.{getD-set-same, getD-set-other}
+use Rattle.codec.specs.Limit.{maxAccesses}
 use Rattle.tracker.specs.Sum.{sumOf}
 
 pub sum-none : (xs : List ℕ) → sumOf xs 0 ≡ 0
@@ -35,7 +36,7 @@ sum-rises xs t (suc n) l h =
     (eq-or-lt-of-le (le-of-suc-le-suc h))
 
 -- counts of 65,535 at most have a sum that fits 32 bits
-pub sum-bound : (xs : List ℕ) (n : ℕ) → ((i : ℕ) → i < n → getD xs i 0 ≤ 65535) → sumOf xs n ≤ 65535 * n
+pub sum-bound : (xs : List ℕ) (n : ℕ) → ((i : ℕ) → i < n → getD xs i 0 ≤ maxAccesses) → sumOf xs n ≤ 65535 * n
 unfolding sumOf
 sum-bound xs zero h = omega arith
 sum-bound xs (suc n) h = omega (arith, sum-bound xs n (λ (i : ℕ) (k : i < n). h i (omega arith)), h n (omega arith))

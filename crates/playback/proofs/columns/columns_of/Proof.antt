@@ -1,5 +1,6 @@
 use mathlib.Core.Path.{refl}
 use Prim.Native.Nat.{_-_}
+use Rattle.codec.specs.Limit.{maxTasks}
 use Rattle.playback.specs.Laws.Columns.{placeOf, endOf, countOf}
 use Rattle.replayer.specs.Laws.Each.{Filled, filled-none, filled-more, filled-all}
 use Rattle.replayer.specs.Run.{doneOf}
@@ -8,7 +9,7 @@ use Rattle.playback.proofs.columns.columns_of.Statement.{statement}
 use Rattle.playback.proofs.columns.columns_of.Tie as tie
 
 abbrev Inv-loop : tie.InvT-loop
-Inv-loop run places₀ ends₀ dones₀ counts₀ t₀ places ends dones counts t = Filled (placeOf (run .runs)) 16 places t × Filled (endOf (run .runs)) 16 ends t × Filled (doneOf (run .runs)) 16 dones t × Filled (countOf (run .runs)) 16 counts t
+Inv-loop run places₀ ends₀ dones₀ counts₀ t₀ places ends dones counts t = Filled (placeOf (run .runs)) maxTasks places t × Filled (endOf (run .runs)) maxTasks ends t × Filled (doneOf (run .runs)) maxTasks dones t × Filled (countOf (run .runs)) maxTasks counts t
 
 abbrev μ-loop : tie.MeasureT-loop
 μ-loop run places₀ ends₀ dones₀ counts₀ t₀ places ends dones counts t = 16 - t

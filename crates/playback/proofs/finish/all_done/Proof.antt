@@ -4,6 +4,7 @@ use Prim.Native.Nat.{_-_, _≤_, _<_}
 use denote.Ref.{now}
 use borrow.Author.Needs.{needs}
 use borrow.Author.Tests.{lt-ltb, le-ltb}
+use Rattle.codec.specs.Limit.{maxTasks}
 use Rattle.replayer.specs.All.{allFrom}
 use Rattle.replayer.specs.Laws.All.{all-on, all-off, all-end}
 use Rattle.playback.specs.Laws.Columns.{doneBy, allDoneOf}
@@ -18,7 +19,7 @@ Inv-loop tasks dones counts few t₀ t = (t ≤ few) × (allFrom (doneBy dones c
 abbrev μ-loop : tie.MeasureT-loop
 μ-loop tasks dones counts few t₀ t = few - t
 
-below : (c : tie.In-loop Inv-loop μ-loop) → c .before .loop .t < 16
+below : (c : tie.In-loop Inv-loop μ-loop) → c .before .loop .t < maxTasks
 below c = omega (arith, c .loop-test .taken, c .before .before .least .ensures, tasks-few (c .before .before .before .args .tasks))
 
 least-requires : tie.Need-least-requires Inv-loop μ-loop

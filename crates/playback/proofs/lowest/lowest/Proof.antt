@@ -4,6 +4,7 @@ use Prim.Native.Nat.{ℕ, _-_, _≤_, _<_}
 use native.Mathlib.Omega.{arith}
 use lib.ListN.{length}
 use denote.Ref.{now}
+use Rattle.codec.specs.Limit.{maxTasks}
 use Rattle.replayer.specs.declared.Run.{Run}
 use Rattle.replayer.proofs.Else.{closed-next}
 use Rattle.replayer.specs.Laws.Look.{OneTask}
@@ -35,7 +36,7 @@ run c = let a = c .before .before .args in runOf (a .tasks) (a .objects) (c .loo
 sound : (c : tie.In-loop Inv-loop μ-loop) → Sound (run (c .before)) (length (now (c .before .before .before .args .bytes)))
 sound c = sound-facts (run (c .before)) (length (now (c .before .before .before .args .bytes))) (c .before .loop .inv .0 .sound)
 
-few : (c : tie.In-loop Inv-loop μ-loop) → c .before .loop .t < 16
+few : (c : tie.In-loop Inv-loop μ-loop) → c .before .loop .t < maxTasks
 few c = omega (arith, c .loop-test .taken, sound c .few-tasks)
 
 one : (c : tie.In-loop Inv-loop μ-loop) →

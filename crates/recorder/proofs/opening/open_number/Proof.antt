@@ -6,7 +6,7 @@ use denote.Ref.{now}
 use borrow.Author.Tests.{not-true, not-false, lt-ltb, le-ltb}
 use Rattle.codec.specs.Head.{headLength}
 use Rattle.reader.specs.Parse.{allBelow}
-use Rattle.codec.specs.Limit.{isWithin}
+use Rattle.codec.specs.Limit.{isWithin, maxTasks, maxObjects}
 use Rattle.codec.specs.Laws.Limit.{within-facts}
 use Rattle.recorder.specs.OpenOf.{entriesOk, openNumber}
 use borrow.Author.Needs.{needs}
@@ -14,10 +14,10 @@ use Rattle.recorder.proofs.opening.open_number.Statement.{statement}
 use Rattle.recorder.proofs.opening.open_number.Tie as tie
 
 -- the tests that were passed, one behind another
-tasks-fit : (c : tie.Else1) → isWithin 1 16 (c .before .before .before .args .tasks) ≡ true
+tasks-fit : (c : tie.Else1) → isWithin 1 maxTasks (c .before .before .before .args .tasks) ≡ true
 tasks-fit c = sym (c .before .within .ensures) ∙ not-false _ (c .if1 .left)
 
-objects-fit : (c : tie.Else2) → isWithin 1 256 (c .before .before .before .before .before .args .objects) ≡ true
+objects-fit : (c : tie.Else2) → isWithin 1 maxObjects (c .before .before .before .before .before .args .objects) ≡ true
 objects-fit c = sym (c .before .within2 .ensures) ∙ not-false _ (c .if2 .left)
 
 entries-fit : (c : tie.Else3) → let a = c .before .before .before .before .before .before .before .args in entriesOk (a .objects) (length (now (a .owners))) (a .starts) (a .memory) ≡ true
@@ -55,7 +55,7 @@ unfolding openNumber
 returns-4 c = let d = c .before .before in rw (tasks-fit (d .before .before .before .before), objects-fit (d .before .before), entries-fit d, sym (c .before .owners-below .ensures) ∙ not-true _ (c .if4 .taken))
 
 head-length-requires : tie.Need-head-length-requires
-head-length-requires c κs = omega (arith, within-facts 1 256 _ (objects-fit (c .before .before .before .before)) .1)
+head-length-requires c κs = omega (arith, within-facts 1 maxObjects _ (objects-fit (c .before .before .before .before)) .1)
 
 returns-5 : tie.Need-returns-5
 unfolding openNumber

@@ -4,6 +4,7 @@ use native.Mathlib.Nat.{le-antisymm}
 use native.Mathlib.Omega.{arith}
 use lib.ListN.{length, length-set}
 use denote.Ref.{now}
+use Rattle.codec.specs.Limit.{maxObjects}
 use Rattle.tracker.specs.Opened.{ownedRecords}
 use Rattle.tracker.specs.Laws.Opened.{records-none, records-more}
 use borrow.Author.Needs.{needs}
@@ -12,7 +13,7 @@ use Rattle.recorder.proofs.opening.owned_records.Tie as tie
 
 abbrev Inv-loop : tie.InvT-loop
 Inv-loop owners records₀ i₀ i-end records i =
-    (i ≤ length owners) × (length records ≡ 256) × (records ≡ ownedRecords owners i)
+    (i ≤ length owners) × (length records ≡ maxObjects) × (records ≡ ownedRecords owners i)
 
 abbrev μ-loop : tie.MeasureT-loop
 μ-loop owners records₀ i₀ i-end records i = length owners - i

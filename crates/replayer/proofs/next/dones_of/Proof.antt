@@ -1,5 +1,6 @@
 use mathlib.Core.Path.{refl}
 use Prim.Native.Nat.{_-_}
+use Rattle.codec.specs.Limit.{maxTasks}
 use Rattle.replayer.specs.Laws.Each.{Filled, filled-none, filled-more, filled-all}
 use Rattle.replayer.specs.Run.{doneOf}
 use borrow.Author.Needs.{needs}
@@ -7,7 +8,7 @@ use Rattle.replayer.proofs.next.dones_of.Statement.{statement}
 use Rattle.replayer.proofs.next.dones_of.Tie as tie
 
 abbrev Inv-loop : tie.InvT-loop
-Inv-loop run dones₀ t₀ dones t = Filled (doneOf (run .runs)) 16 dones t
+Inv-loop run dones₀ t₀ dones t = Filled (doneOf (run .runs)) maxTasks dones t
 
 abbrev μ-loop : tie.MeasureT-loop
 μ-loop run dones₀ t₀ dones t = 16 - t

@@ -26,7 +26,7 @@ tasks-so c = sym (c .before .within .ensures) ∙ not-false _ (c .if1 .left)
 objects-so : (c : tie.Else2 Inv-loop μ-loop) → isWithin 1 maxObjects (c .before .before .before .before .args .t1 .objects) ≡ true
 objects-so c = sym (c .before .within2 .ensures) ∙ not-false _ (c .if2 .left)
 
-few : (c : tie.In-loop Inv-loop μ-loop) → c .before .loop .t < 16
+few : (c : tie.In-loop Inv-loop μ-loop) → c .before .loop .t < maxTasks
 few c = omega (arith, within-facts 1 maxTasks (c .before .before .before .before .before .before .args .t1 .tasks) (tasks-so (c .before .before .before .before)) .1, c .loop-test .taken)
 
 within-requires : tie.Need-within-requires Inv-loop μ-loop

@@ -3,6 +3,7 @@ use native.Mathlib.Omega.{arith}
 use Prim.Native.Nat.{_-_, _≤_}
 use borrow.Author.Needs.{needs}
 use native.Mathlib.Nat.{le-antisymm}
+use Rattle.codec.specs.Limit.{maxTasks}
 use Rattle.replayer.specs.OpenOf.{startsOf}
 use Rattle.replayer.specs.Laws.OpenCode.{starts-none, starts-more, starts-clipped}
 use Rattle.replayer.proofs.start.starts.Statement.{statement}
@@ -10,7 +11,7 @@ use Rattle.replayer.proofs.start.starts.Tie as tie
 
 abbrev Inv-loop : tie.InvT-loop
 Inv-loop tasks spans runs₀ few t₀ runs t =
-    (t ≤ few) × (few ≤ 16) × (runs ≡ startsOf spans t)
+    (t ≤ few) × (few ≤ maxTasks) × (runs ≡ startsOf spans t)
 
 abbrev μ-loop : tie.MeasureT-loop
 μ-loop tasks spans runs₀ few t₀ runs t = few - t

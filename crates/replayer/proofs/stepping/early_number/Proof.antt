@@ -5,6 +5,7 @@ use borrow.Author.Needs.{needs}
 use borrow.Author.Tests.{lt-ltb, le-ltb, eq-eqb, ne-eqb, not-true, not-false}
 use mathlib.Core.Bool.{true}
 use lib.Dec.{eqb, ltb}
+use Rattle.codec.specs.Limit.{maxTasks}
 use Rattle.replayer.specs.Sound.{soundOf}
 use Rattle.replayer.specs.Laws.Sound.{sound-facts}
 use Rattle.replayer.specs.Run.{taskAt}
@@ -22,7 +23,7 @@ entries-so c = eq-eqb _ _ (c .if2 .left)
 task-so : (c : tie.Else3) → ltb (c .before .before .before .before .args .task) (c .before .before .before .before .args .t1 .tasks) ≡ true
 task-so c = lt-ltb _ _ (c .if3 .left)
 
-few : (c : tie.Else3) → c .before .before .before .before .args .task < 16
+few : (c : tie.Else3) → c .before .before .before .before .args .task < maxTasks
 few c = omega (arith, sound-facts (c .before .before .before .before .args .t1) (c .before .before .before .before .args .size) (sound-so (c .before .before)) .few-tasks, c .if3 .left)
 
 sound-requires : tie.Need-sound-requires

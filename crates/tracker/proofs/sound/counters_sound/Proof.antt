@@ -1,7 +1,7 @@
 use mathlib.Core.Bool.{true}
 use mathlib.Core.Path.{_≡_, _∙_, sym}
 use borrow.Author.Tests.{not-true, not-false}
-use Rattle.codec.specs.Limit.{isWithin}
+use Rattle.codec.specs.Limit.{isWithin, maxTasks, maxObjects}
 use Rattle.codec.specs.Laws.Limit.{within-facts}
 use Rattle.tracker.specs.Laws.Scan.{countersSound}
 use Rattle.tracker.specs.Sound.{lastSound}
@@ -10,10 +10,10 @@ use Rattle.tracker.proofs.sound.counters_sound.Statement.{statement}
 use Rattle.tracker.proofs.sound.counters_sound.Tie as tie
 
 -- what the tests on the way have shown
-tasks-in : (c : tie.Else1) → isWithin 1 16 (c .before .before .before .before .before .before .args .counters .tasks) ≡ true
+tasks-in : (c : tie.Else1) → isWithin 1 maxTasks (c .before .before .before .before .before .before .args .counters .tasks) ≡ true
 tasks-in c = sym (c .before .within .ensures) ∙ not-false _ (c .if1 .left)
 
-objects-in : (c : tie.Else2) → isWithin 1 256 (c .before .before .before .before .before .before .before .before .before .args .counters .objects) ≡ true
+objects-in : (c : tie.Else2) → isWithin 1 maxObjects (c .before .before .before .before .before .before .before .before .before .args .counters .objects) ≡ true
 objects-in c = sym (c .before .within2 .ensures) ∙ not-false _ (c .if2 .left)
 
 last-good : (c : tie.Else3) → let m = c .before .before .before .before .before .before .before .before .before .before .before .args .counters in lastSound (m .last) (m .tasks) (m .shares) (m .done) ≡ true
@@ -40,14 +40,14 @@ unfolding countersSound
 returns-2 c = simp (tasks-in (c .before .before .before), sym (c .before .within2 .ensures) ∙ not-true _ (c .if2 .taken))
 
 last-sound-requires : tie.Need-last-sound-requires
-last-sound-requires c κs = within-facts 1 16 _ (tasks-in (c .before .before .before)) .1
+last-sound-requires c κs = within-facts 1 maxTasks _ (tasks-in (c .before .before .before)) .1
 
 returns-3 : tie.Need-returns-3
 unfolding countersSound
 returns-3 c = simp (tasks-in (c .before .before .before .before .before), objects-in (c .before .before), sym (c .before .last-sound .ensures) ∙ not-true _ (c .if3 .taken))
 
 tasks-sound-requires : tie.Need-tasks-sound-requires
-tasks-sound-requires c κs = within-facts 1 16 _ (tasks-in (c .before .before .before .before .before)) .1
+tasks-sound-requires c κs = within-facts 1 maxTasks _ (tasks-in (c .before .before .before .before .before)) .1
 
 returns-4 : tie.Need-returns-4
 unfolding countersSound

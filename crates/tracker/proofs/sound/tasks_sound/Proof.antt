@@ -5,6 +5,7 @@ use native.Mathlib.Nat.{le-antisymm}
 use native.Mathlib.Omega.{arith}
 use borrow.Author.Tests.{not-true, not-false}
 use lib.ListN.{getD}
+use Rattle.codec.specs.Limit.{maxAccesses}
 use Rattle.tracker.specs.Range.{allBelow}
 use Rattle.tracker.specs.Laws.Range.{all-none, all-more, all-fails}
 use Rattle.tracker.specs.Sum.{sumOf}
@@ -28,7 +29,7 @@ passed : (c : tie.Else1 Inv-loop μ-loop) →
     taskSoundAt (a .t3) (a .t4) (a .t5) (a .shares) (c .before .before .before .loop .i) ≡ true
 passed c = sym (c .before .task-sound .ensures) ∙ not-false _ (c .if1 .left)
 
-small : (c : tie.Else1 Inv-loop μ-loop) → getD (c .before .before .before .before .args .t3) (c .before .before .before .loop .i) 0 ≤ 65535
+small : (c : tie.Else1 Inv-loop μ-loop) → getD (c .before .before .before .before .args .t3) (c .before .before .before .loop .i) 0 ≤ maxAccesses
 small c = task-facts _ _ _ _ (passed c) .done-fits
 
 loop-holds : tie.Need-loop-holds Inv-loop μ-loop
