@@ -1,2 +1,2 @@
-pub mod LogTurn
 pub mod Orders
+pub mod Put

@@ -1,3 +1,3 @@
-pub mod LogTurn
-pub mod Orders
 pub mod Laws
+pub mod Orders
+pub mod Put

@@ -1,4 +1,4 @@
-pub mod Accesses
+pub mod AccessCount
 pub mod Answers
 pub mod Bodies
 pub mod Body
@@ -12,6 +12,7 @@ pub mod HeadCode
 pub mod Joined
 pub mod Laid
 pub mod Layout
+pub mod LocateCode
 pub mod OneByOne
 pub mod OrderingAt
 pub mod Part
@@ -23,5 +24,4 @@ pub mod SectionCode
 pub mod Standing
 pub mod Starting
 pub mod Strict
-pub mod SurveyCode
 pub mod WalkCode

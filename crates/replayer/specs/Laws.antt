@@ -1,11 +1,11 @@
 pub mod All
 pub mod Dones
 pub mod Each
+pub mod FirstUnmet
 pub mod Left
 pub mod Look
 pub mod Moved
 pub mod Next
-pub mod NextTurn
 pub mod OpenCode
 pub mod OpenOf
 pub mod ReadyOf

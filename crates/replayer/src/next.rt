@@ -5,7 +5,7 @@ ghost use lib.ListN.{length};
 ghost use Rattle.codec.specs.Limit.{maxTasks};
 ghost use Rattle.replayer.specs.Run.{taskAt};
 ghost use Rattle.replayer.specs.Dones.{donesOf};
-ghost use Rattle.replayer.specs.NextTurn.{InGroup, Scanned, Looked};
+ghost use Rattle.replayer.specs.FirstUnmet.{InGroup, Scanned, Looked};
 ghost use Rattle.replayer.specs.Laws.Next.{refusalOf};
 ghost use Rattle.replayer.specs.Next.{nextOf};
 use crate::Run;

@@ -24,8 +24,8 @@ use Rattle.replayer.specs.Laws.Look.{OneTask, look-next}
 use Rattle.replayer.specs.Laws.Moved.{Shaped, moved-own, moved-other, moved-tasks, moved-objects}
 use Rattle.replayer.specs.Next.{entryNext, nextOf, isOpen}
 use Rattle.replayer.specs.Laws.Next.{judged-open, next-entry}
-use Rattle.replayer.specs.NextTurn.{Ahead}
-use Rattle.replayer.specs.Laws.NextTurn.{done-all, ahead-later}
+use Rattle.replayer.specs.FirstUnmet.{Ahead}
+use Rattle.replayer.specs.Laws.FirstUnmet.{done-all, ahead-later}
 use Rattle.replayer.specs.ReadyOf.{isReady}
 use Rattle.replayer.specs.Run.{taskAt, limitsOf, movedOf}
 

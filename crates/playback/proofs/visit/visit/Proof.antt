@@ -1,7 +1,7 @@
 use denote.Ref.{now}
 use lib.ListN.{getD}
-use Rattle.replayer.specs.NextTurn.{Reached}
-use Rattle.replayer.specs.Laws.NextTurn.{ahead-rest}
+use Rattle.replayer.specs.FirstUnmet.{Reached}
+use Rattle.replayer.specs.Laws.FirstUnmet.{ahead-rest}
 use Rattle.playback.specs.Laws.Visit.{visit-none, visit-looks, noted-set, noted-scan}
 use borrow.Author.Needs.{needs}
 use Rattle.playback.proofs.visit.visit.Statement.{statement}

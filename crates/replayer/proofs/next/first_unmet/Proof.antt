@@ -3,8 +3,8 @@ use Prim.Native.Nat.{ℕ, _-_}
 use denote.Ref.{now}
 use borrow.Author.Needs.{needs}
 use Rattle.reader.specs.declared.Limits.{Limits}
-use Rattle.replayer.specs.NextTurn.{Ahead}
-use Rattle.replayer.specs.Laws.NextTurn.{Passing, ahead-turn}
+use Rattle.replayer.specs.FirstUnmet.{Ahead}
+use Rattle.replayer.specs.Laws.FirstUnmet.{Passing, ahead-turn}
 use Rattle.reader.specs.OrderingAt.{orderingAt}
 use Rattle.replayer.proofs.next.first_unmet.Statement.{statement}
 use Rattle.replayer.proofs.next.first_unmet.Tie as tie

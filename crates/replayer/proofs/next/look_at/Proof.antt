@@ -1,8 +1,8 @@
 use denote.Ref.{now}
 use native.Mathlib.Omega.{arith}
 use Rattle.replayer.specs.Laws.Next.{refusalOf}
-use Rattle.replayer.specs.NextTurn.{Ahead, Reached}
-use Rattle.replayer.specs.Laws.NextTurn.{next-refused, ahead-start, next-open}
+use Rattle.replayer.specs.FirstUnmet.{Ahead, Reached}
+use Rattle.replayer.specs.Laws.FirstUnmet.{next-refused, ahead-start, next-open}
 use Rattle.replayer.proofs.Else.{not-found}
 use borrow.Author.Needs.{needs}
 use Rattle.replayer.proofs.next.look_at.Statement.{statement}

@@ -1,4 +1,4 @@
--- One turn of the loop that judges the orderings of a group that was read, over plain variables.
+-- How far the orderings of a group that was read are judged: what the scan for the first that is not met relies on, and what it tells.
 use mathlib.Core.Path.{_≡_}
 use mathlib.Core.List.{List}
 use Prim.Native.Nat.{ℕ, _+_, _*_, _≤_, _<_}

@@ -35,7 +35,7 @@ use Rattle.replayer.specs.Look.{groupAt, Looks}
 use Rattle.replayer.specs.Met.{allMet}
 use Rattle.replayer.specs.Next.{judged, isOpen}
 use Rattle.replayer.specs.Run.{doneOf}
-use Rattle.replayer.specs.NextTurn.{DoneAll, Ahead}
+use Rattle.replayer.specs.FirstUnmet.{DoneAll, Ahead}
 
 done-at : (dones : List ℕ) (runs : List TaskRun) → donesOf runs ≡ dones → (s : ℕ) → s < maxTasks → getD dones s 0 ≡ doneOf runs s
 done-at dones runs e s h = rw (← e) (dones-at runs s h)
