@@ -1,11 +1,11 @@
 // A task's body copied out: an exported function cannot hand back a part of a slice.
 ghost use mathlib.Core.Path.{_≡_};
-ghost use mathlib.Core.List.{[], _∷_};
 ghost use Prim.Native.Nat.{_≤_};
 ghost use lib.ListN.{length};
 ghost use Rattle.codec.specs.Store.{store};
 ghost use Rattle.linked.specs.Answers.{copyNumbers};
 ghost use Rattle.linked.specs.CopyOf.{copyOf};
+use crate::answers::put_three;
 use codec::number::NO_ROOM;
 use reader::body;
 use reader::body_check;
@@ -17,14 +17,6 @@ fn put_bytes(out: &mut [u8], bytes: &[u8])
     for i in 0..bytes.len() {
         out[i] = bytes[i];
     }
-}
-
-fn put_three(answer: &mut [usize; 6], x: usize, y: usize, z: usize)
-    ensures { λ _. ⌜ now (answer .exit) ≡ store (now (answer .entry)) 0 (x ∷ y ∷ z ∷ []) ⌝ }
-{
-    answer[0] = x;
-    answer[1] = y;
-    answer[2] = z;
 }
 
 // The answer is number, offset and bytes written. A body that has bytes was not refused, so the bytes are walked a second time only

@@ -23,6 +23,9 @@ ghost use Rattle.playback.specs.ToEnd.{toEndOf};
 ghost use Rattle.linked.specs.Answers.{openNumbers, accessNumbers, sectionNumbers, checkNumbers, replayOpenNumbers, readyNumbers, finishedNumbers, stepNumbers, sameNumbers, toEndNumbers};
 ghost use Rattle.arrays.specs.Halves.{stateIn, halvesOf, wordsOf, movedTo};
 ghost use Rattle.arrays.specs.Places.{runIn, placesOf};
+use crate::answers::put_five;
+use crate::answers::put_six;
+use crate::answers::put_three;
 use arrays::put_run;
 use arrays::put_state;
 use arrays::run_of;
@@ -80,11 +83,14 @@ pub extern "C" fn wk_access(
 {
     let before = state_of(halves, words);
     let r = recorder::access(before, task, object, sort, value, memory, out);
-    answer[0] = r.number as usize;
-    answer[1] = r.value as usize;
-    answer[2] = r.row as usize;
-    answer[3] = r.class as usize;
-    answer[4] = r.written;
+    put_five(
+        answer,
+        r.number as usize,
+        r.value as usize,
+        r.row as usize,
+        r.class as usize,
+        r.written,
+    );
     if r.number != 0 {
         return;
     }
@@ -106,9 +112,7 @@ pub extern "C" fn wk_section(
 {
     let state = state_of(halves, words);
     let r = sections::section(state, task, log, out);
-    answer[0] = r.number as usize;
-    answer[1] = r.offset;
-    answer[2] = r.written;
+    put_three(answer, r.number as usize, r.offset, r.written);
 }
 
 #[no_mangle]
@@ -193,12 +197,15 @@ pub extern "C" fn wk_step(
 {
     let before = run_of(places);
     let r = replayer::step(before, bytes, memory, task);
-    answer[0] = r.number as usize;
-    answer[1] = r.offset;
-    answer[2] = r.kind as usize;
-    answer[3] = r.object;
-    answer[4] = r.value as usize;
-    answer[5] = r.access;
+    put_six(
+        answer,
+        r.number as usize,
+        r.offset,
+        r.kind as usize,
+        r.object,
+        r.value as usize,
+        r.access,
+    );
     let run = r.run;
     put_run(run, places);
 }

@@ -1,4 +1,5 @@
 -- An answer as the code puts it together.
+use mathlib.Core.Path.{_≡_}
 use mathlib.Core.List.{List, _++_}
 use Prim.Native.Nat.{ℕ, _≤_, _<_}
 use native.Mathlib.Omega.{arith}
@@ -35,12 +36,12 @@ module _ (text out message : List ℕ) where
       told-within = omega (arith, same-room a);
     })
 
-    pub answer-so : (r : Recorded) (part : List ℕ) → length text ≤ longest → Records (recordOf text) r (take most out) part
+    pub answer-so : (room : ℕ) → room ≡ most → (r : Recorded) (part : List ℕ) → length text ≤ longest → Records (recordOf text) r (take room out) part
         → Appended (messageOf (r .line) (r .number)) message 0 after told
-        → Answers (answerOf (length out) (length message) text) (record { written = r .written; told = told }) out (part ++ drop most out) message after
+        → Answers (answerOf (length out) (length message) text) (record { written = r .written; told = told }) out (part ++ drop room out) message after
     unfolding answerOf streamsOf
-    answer-so r part i x a =
-        let f = front-appended out part (recordOf text .bytes) most (r .written) k (x .within) (x .stored) in
+    answer-so room e r part i x a =
+        let f = front-appended out part (recordOf text .bytes) room (r .written) (omega arith) (omega (arith, x .within)) (x .stored) in
         rw (le-leb most (length out) k, le-leb messageRoom (length message) h, le-ltb longest (length text) i, ← x .line, ← x .number) (record {
           written = f;
           told = a;

@@ -1,8 +1,8 @@
 use mathlib.Core.Path.{refl}
 use Rattle.codec.specs.Store.{store}
 use borrow.Author.Needs.{needs}
-use Rattle.linked.proofs.body.put_three.Statement.{statement}
-use Rattle.linked.proofs.body.put_three.Tie as tie
+use Rattle.linked.proofs.answers.put_three.Statement.{statement}
+use Rattle.linked.proofs.answers.put_three.Tie as tie
 
 element-write-answer : tie.Need-element-write-answer
 element-write-answer c = search needs
