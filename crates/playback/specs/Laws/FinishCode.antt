@@ -15,7 +15,7 @@ use Rattle.replayer.specs.Memory.{performed}
 use Rattle.replayer.specs.ReadyOf.{readyOf}
 use Rattle.replayer.specs.Run.{movedOf}
 use Rattle.replayer.specs.StepOf.{onNext, stepOf}
-use Rattle.replayer.specs.Laws.StepCode.{clear-barred, step-next}
+use Rattle.replayer.specs.Laws.StepCode.{clear-early-number, step-next}
 
 -- a play on its way: each step takes one access away, and it comes to the same end
 pub record Going (b : List ℕ) (start x : Play) : Type 0 where
@@ -28,7 +28,7 @@ module _ (b : List ℕ) (x : Play) (w : Playing b x) (t : ℕ) (op : Op) (next :
   pub step-open : stepOf (x .run) b (x .memory) t ≡ onNext (x .run) (x .memory) t (Open op next)
   step-open =
       step-next (x .run) b (x .memory) t 0
-      (sym (clear-barred (x .run) (length b) (length (x .memory)) t (record { sound = w .sound; memory = w .entries; below = n .below; left = n .left })))
+      (sym (clear-early-number (x .run) (length b) (length (x .memory)) t (record { sound = w .sound; memory = w .entries; below = n .below; left = n .left })))
       refl (Open op next) (sym (n .opens))
 
 pub going-start : (b : List ℕ) (x : Play) → Playing b x → x .steps ≡ 0 → Going b x x
