@@ -18,7 +18,7 @@ use Rattle.sections.specs.SectionOf.{sectionOf, sectionChecked, logChecked}
 use Rattle.recorder.specs.WholeRun.{outcome, called, calledAll, packed}
 use Rattle.replayer.specs.All.{allFrom}
 use Rattle.replayer.specs.Met.{allMet}
-use Rattle.replayer.specs.Next.{entryNext, judged as judged-replayer-next, stateAfter as nextOf-replayer-next}
+use Rattle.replayer.specs.Next.{entryNext, judged as judged-replayer-next, nextOf as nextOf-replayer-next}
 use Rattle.replayer.specs.OpenOf.{startsOf, onParse, openOf as openOf-replayer-openof}
 use Rattle.replayer.specs.ReadyOf.{isReady, readyOf}
 use Rattle.replayer.specs.Run.{movedOf}
