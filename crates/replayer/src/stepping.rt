@@ -2,9 +2,9 @@
 ghost use mathlib.Core.Path.{_≡_};
 ghost use Prim.Native.Nat.{_+_, _<_};
 ghost use Rattle.codec.specs.Limit.{maxTasks};
-ghost use Rattle.replayer.specs.Run.{taskAt, doneOf, movedOf};
+ghost use Rattle.replayer.specs.Run.{doneOf, movedOf};
 ghost use Rattle.replayer.specs.Memory.{valueOf, performed};
-ghost use Rattle.replayer.specs.StepOf.{refusedStep, earlyNumber, onNext};
+ghost use Rattle.replayer.specs.StepOf.{refusedStep, earlyNumber};
 ghost use Rattle.replayer.specs.Laws.StepOf.{lateRefusal};
 use crate::Run;
 use crate::Stepped;
@@ -91,7 +91,7 @@ pub fn perform(op: Op, memory: &mut [u32]) -> u32
 }
 
 // The task goes on to a place, with one more access done, `access` in all; no other task moves.
-fn moved(run: Run, task: usize, next: usize, access: usize) -> Run
+pub(crate) fn moved(run: Run, task: usize, next: usize, access: usize) -> Run
     requires { ⌜ (task < maxTasks) × (access ≡ doneOf (run .runs) task + 1) ⌝ }
     ensures { λ r. ⌜ r ≡ movedOf run task next ⌝ }
 {
@@ -108,27 +108,5 @@ fn moved(run: Run, task: usize, next: usize, access: usize) -> Run
         tasks: run.tasks,
         objects: run.objects,
         runs,
-    }
-}
-
-// A step that is taken: the access done on the memory, the run moved on, and the answer.
-pub(crate) fn taken(run: Run, memory: &mut [u32], task: usize, op: Op, next: usize) -> Stepped
-    requires { ⌜ (task < maxTasks) × (taskAt (run .runs) task .done < taskAt (run .runs) task .count) ⌝ }
-    ensures { λ r. ⌜ r ≡ onNext run (now (memory .entry)) task (Next.Open op next) .answer ⌝ }
-    ensures { λ r. ⌜ now (memory .exit) ≡ onNext run (now (memory .entry)) task (Next.Open op next) .memory ⌝ }
-{
-    let x = run.runs[task];
-    let access = x.done + 1;
-    let value = perform(op, memory);
-    let object = op.object as usize;
-    let after = moved(run, task, next, access);
-    Stepped {
-        number: 0,
-        offset: 0,
-        kind: op.kind,
-        object,
-        value,
-        access,
-        run: after,
     }
 }
