@@ -31,12 +31,14 @@ returns-4 c = let d = both (c .before .before .before .before .before .before) i
 returns-5 : tie.Need-returns-5
 unfolding alikeOf
 returns-5 c = let d = both (c .before .before .before .before .before .before .before .before .before) in
-    rw (d .0, d .1, eq-eqb _ _ (c .before .before .before .before .before .before .if3 .left), eq-eqb _ _ (c .before .before .before .if4 .left), ne-eqb _ _ (c .if5 .taken))
+    let a = c .before .before .before .before .before .before .before .before .before .before .before .before .before .args in
+    rw (d .0, d .1, eq-eqb _ _ (c .before .before .before .before .before .before .if3 .left), eq-eqb _ _ (c .before .before .before .if4 .left), ne-eqb (a .x .steps) (a .y .steps) (c .if5 .taken))
 
 returns-6 : tie.Need-returns-6
 unfolding alikeOf
 returns-6 c = let d = both (c .before .before .before .before .before .before .before .before .before) in
-    rw (d .0, d .1, eq-eqb _ _ (c .before .before .before .before .before .before .if3 .left), eq-eqb _ _ (c .before .before .before .if4 .left), eq-eqb _ _ (c .if5 .left))
+    let a = c .before .before .before .before .before .before .before .before .before .before .before .before .before .args in
+    rw (d .0, d .1, eq-eqb _ _ (c .before .before .before .before .before .before .if3 .left), eq-eqb _ _ (c .before .before .before .if4 .left), eq-eqb (a .x .steps) (a .y .steps) (c .if5 .left))
 
 pub alike-spec : {M : Type 1} → statement M
 alike-spec =
