@@ -1,3 +1,4 @@
+pub mod Bit
 pub mod Decode
 pub mod Encode
 pub mod Field

@@ -4,7 +4,7 @@ use mathlib.Core.List.{List, [], _∷_}
 use mathlib.Core.Path.{_≡_}
 use Prim.Native.Nat.{ℕ, _+_}
 use lib.Dec.{eqb}
-use Rattle.history.specs.Tally.{bit}
+use Rattle.codec.specs.Bit.{bit}
 use Rattle.replayer.specs.declared.Run.{Run}
 use Rattle.replayer.specs.declared.Stepped.{Stepped}
 use Rattle.replayer.specs.OpenOf.{openOf}

@@ -8,7 +8,7 @@ use mathlib.Core.Bool.{Bool, true, false, cond, _&&_}
 use Prim.Native.Nat.{ℕ, suc, _+_}
 use lib.Dec.{eqb, leb}
 use Rattle.codec.specs.declared.Position.{Position}
-use Rattle.history.specs.Tally.{bit}
+use Rattle.codec.specs.Bit.{bit}
 use Rattle.history.specs.Entry.{Act, read, write, acquire, Entry}
 use Rattle.history.specs.History.{History, count}
 

@@ -13,7 +13,8 @@ use Rattle.playback.specs.declared.finish.Completion.{Completion}
 use Rattle.replayer.specs.declared.Stepped.{Stepped}
 use Rattle.playback.specs.declared.alike.Compared.{Compared}
 use Rattle.playback.specs.declared.to_end.Replayed.{Replayed}
-use Rattle.replayer.specs.Word.{bit, readyCount, lowestReady}
+use Rattle.codec.specs.Bit.{bit}
+use Rattle.replayer.specs.Word.{readyCount, lowestReady}
 use Rattle.linked.specs.CopyOf.{Copied}
 
 abbrev pub openNumbers : Opened → List ℕ

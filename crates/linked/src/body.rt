@@ -1,23 +1,13 @@
 // A task's body copied out: an exported function cannot hand back a part of a slice.
 ghost use mathlib.Core.Path.{_≡_};
-ghost use Prim.Native.Nat.{_≤_};
-ghost use lib.ListN.{length};
 ghost use Rattle.codec.specs.Store.{store};
 ghost use Rattle.linked.specs.Answers.{copyNumbers};
 ghost use Rattle.linked.specs.CopyOf.{copyOf};
 use crate::answers::put_three;
 use codec::number::NO_ROOM;
+use codec::write::put_bytes;
 use reader::body;
 use reader::body_check;
-
-fn put_bytes(out: &mut [u8], bytes: &[u8])
-    requires { ⌜ length (now bytes) ≤ length (now out) ⌝ }
-    ensures { λ _. ⌜ now (out .exit) ≡ store (now (out .entry)) 0 (now (bytes .entry)) ⌝ }
-{
-    for i in 0..bytes.len() {
-        out[i] = bytes[i];
-    }
-}
 
 // The answer is number, offset and bytes written. A body that has bytes was not refused, so the bytes are walked a second time only
 // for an empty one.
@@ -37,6 +27,6 @@ pub extern "C" fn wk_body(bytes: &[u8], task: usize, out: &mut [u8], answer: &mu
         put_three(answer, NO_ROOM as usize, 0, 0);
         return;
     }
-    put_bytes(out, part);
+    put_bytes(out, 0, part);
     put_three(answer, 0, 0, size);
 }

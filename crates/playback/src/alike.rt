@@ -64,7 +64,7 @@ fn alike(x: Played, y: Played, memory: bool) -> bool
     memory
 }
 
-// Both surveyed recordings are played, and what they came to is compared.
+// Both recordings, which were checked, are played, and what they came to is compared.
 fn compare(
     first: &[u8],
     second: &[u8],

@@ -31,7 +31,7 @@ fn refused(number: u32, offset: usize) -> Replayed
     }
 }
 
-// A surveyed recording from its opening to where it ends or sticks.
+// A recording that was checked, from its opening to where it ends or sticks.
 pub(crate) fn play(bytes: &[u8], l: Layout, memory: &mut [u32]) -> Played
     requires { ⌜ (l ≡ layoutOf (parse (now bytes))) × (l .number ≡ 0) × (length (now memory) ≡ l .objects) ⌝ }
     ensures { λ r. ⌜ r ≡ shownPlay (playOf (now (bytes .entry)) (now (memory .entry))) ⌝ }

@@ -3,10 +3,7 @@
 use mathlib.Core.Bool.{Bool, true, false}
 use Prim.Native.Nat.{ℕ, zero, suc, _+_, _*_, _/_, _%_}
 use lib.Dec.{eqb}
-
-abbrev pub bit : Bool → ℕ
-bit true = 1
-bit false = 0
+use Rattle.codec.specs.Bit.{bit}
 
 -- the word of the n tasks from i on, i the lowest bit
 unfoldable pub wordOf : (ℕ → Bool) → ℕ → ℕ → ℕ

@@ -43,7 +43,7 @@ fn starts(spans: [Span; TASKS], tasks: usize) -> [TaskRun; TASKS]
     runs
 }
 
-// The run at the start of a layout, and the memory set. For a layout that a survey of the bytes accepts, and a memory of N entries, this
+// The run at the start of a layout, and the memory set. For a layout that `locate` finds, and a memory of N entries, this
 // is the opening.
 pub fn begin(bytes: &[u8], l: Layout, memory: &mut [u32]) -> Run
     ensures { λ r. ⌜ r ≡ begunOf l ⌝ }

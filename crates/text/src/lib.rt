@@ -4,7 +4,6 @@ ghost use Prim.Native.Nat.{_+_, _<_, _≤_};
 ghost use lib.ListN.{length};
 ghost use Rattle.text.specs.Appended.{Appended};
 ghost use Rattle.text.specs.Decimal.{decimalOf, fieldOf};
-use bytes::copy;
 
 pub fn put_byte(out: &mut [u8], at: usize, byte: u8) -> usize
     requires { ⌜ at < length (now out) ⌝ }
@@ -18,7 +17,7 @@ pub fn put_bytes(out: &mut [u8], at: usize, text: &[u8]) -> usize
     requires { ⌜ at + length (now text) ≤ length (now out) ⌝ }
     ensures { λ r. ⌜ Appended (now (text .entry)) (now (out .entry)) at (now (out .exit)) r ⌝ }
 {
-    copy(text, &mut out[at..]);
+    codec::write::put_bytes(out, at, text);
     at + text.len()
 }
 

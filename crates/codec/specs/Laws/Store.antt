@@ -1,12 +1,12 @@
 -- Laws of `Store`.
-use mathlib.Core.Path.{_≡_, refl, ap, _∙_}
-use mathlib.Core.List.{List, [], _∷_, _++_}
-use Prim.Native.Nat.{ℕ, suc, _+_, _≤_}
+use mathlib.Core.Path.{_≡_, refl, sym, ap, _∙_}
+use mathlib.Core.List.{List, [], _∷_, _++_, append-assoc, append-nil}
+use Prim.Native.Nat.{ℕ, suc, _+_, _-_, _≤_}
 use native.Mathlib.Nat.{add-zero}
 use native.Mathlib.Numerals.{add-one}
 use native.Mathlib.Omega.{arith}
-use lib.ListN.{length, set, take, drop}
-use lib.Seq.{sets, length-sets, sets-eq, take-at}
+use lib.ListN.{length, set, take, drop, length-drop, drop-of-length-le}
+use lib.Seq.{sets, length-sets, sets-eq, take-at, take-length, drop-drop}
 use Rattle.codec.specs.Store.{store}
 
 pub store-none : (l : List ℕ) (at : ℕ) → store l at [] ≡ l
@@ -39,3 +39,14 @@ store-split l at bs h = sets-eq bs l at h
 -- what is stored at the front of a list that has room for it
 pub store-front : (out bytes : List ℕ) (n : ℕ) → length bytes ≡ n → n ≤ length out → take n (store out 0 bytes) ≡ bytes
 store-front out bytes n e h = rw (store-split out 0 bytes (omega arith)) (take-at bytes (drop (0 + length bytes) out) n e)
+
+-- bytes copied to the start of the part from a place on
+pub store-copied : (l bytes part : List ℕ) (at : ℕ) → at + length bytes ≤ length l
+    → part ≡ take (length bytes) bytes ++ drop (length bytes) (take (length l - at) (drop at l))
+    → take at l ++ (part ++ drop (length l - at) (drop at l)) ≡ store l at bytes
+store-copied l bytes part at h e =
+    let n : length (drop at l) ≡ length l - at = length-drop at l in
+    let z : drop (length l - at) (drop at l) ≡ [] = drop-of-length-le (drop at l) {i = length l - at} (omega arith) in
+    let w : take (length l - at) (drop at l) ≡ drop at l = rw (← n) (take-length (drop at l)) in
+    rw (e, z, w, take-length bytes, drop-drop (length bytes) at l, append-nil, ← append-assoc (take at l) bytes (drop (at + length bytes) l))
+    (sym (store-split l at bytes h))

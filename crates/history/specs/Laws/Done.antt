@@ -9,7 +9,7 @@ use native.Mathlib.Decide.{decLt, ℕ-discrete}
 use lib.Dec.{ltb}
 use lib.ListN.{length}
 use borrow.Author.Tests.{lt-ltb, le-ltb}
-use Rattle.history.specs.Tally.{bit}
+use Rattle.codec.specs.Bit.{bit}
 use Rattle.history.specs.Entry.{Entry}
 use Rattle.history.specs.History.{History, count, At}
 use Rattle.history.specs.Laws.History.{count-none, count-own, count-other, count-rises, at-lt}

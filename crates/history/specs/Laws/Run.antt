@@ -8,7 +8,7 @@ use native.Mathlib.Omega.{arith}
 use native.Mathlib.Decide.{ℕ-discrete}
 use lib.Dec.{eqb}
 use borrow.Author.Tests.{eq-eqb, ne-eqb}
-use Rattle.history.specs.Tally.{bit}
+use Rattle.codec.specs.Bit.{bit}
 use Rattle.history.specs.History.{History, count}
 use Rattle.history.specs.Laws.Access.{access-bound}
 use Rattle.history.specs.Closed.{Closed}

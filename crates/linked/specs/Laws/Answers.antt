@@ -2,7 +2,7 @@
 use mathlib.Core.Bool.{Bool, true, false}
 use mathlib.Core.Path.{_≡_, refl}
 use mir.Val.{boolByte}
-use Rattle.replayer.specs.Word.{bit}
+use Rattle.codec.specs.Bit.{bit}
 
 -- a bool that is cast is its bit
 pub bool-bit : (b : Bool) → boolByte b ≡ bit b

@@ -1,17 +1,15 @@
 -- How a body is copied out, over plain variables.
 use mathlib.Core.Path.{_≡_, refl}
 use mathlib.Core.List.{List, [], _∷_}
-use Prim.Native.Nat.{ℕ, _+_, _<_, _≤_}
-use native.Mathlib.Numerals.{add-one}
+use Prim.Native.Nat.{ℕ, _<_, _≤_}
 use native.Mathlib.Omega.{arith}
 use borrow.Author.Tests.{lt-ltb, le-ltb, eqb-true}
 use lib.Dec.{eqb, ltb}
-use lib.ListN.{length, getD, take, set}
-use lib.Seq.{take-suc, length-take-le}
+use lib.ListN.{length}
 use Rattle.codec.specs.Laws.Decide.{passes, fails, split}
 use Rattle.codec.specs.Number.{noRoom}
 use Rattle.codec.specs.Store.{store}
-use Rattle.codec.specs.Laws.Store.{store-none, store-behind}
+use Rattle.codec.specs.Laws.Store.{store-none}
 use Rattle.reader.specs.Calls.{bodySpan, bodyPart, bodyChecked}
 use Rattle.reader.specs.Parse.{Parsed, parse}
 use Rattle.reader.specs.Part.{part}
@@ -19,13 +17,6 @@ use Rattle.reader.specs.Laws.Positive.{parse-positive}
 use Rattle.reader.specs.Reading.{Reading, refused, read, stop}
 use Rattle.reader.specs.Laws.Reading.{Positive}
 use Rattle.linked.specs.CopyOf.{refusedCopy, copied, copyOf}
-
--- one byte more of a list that is copied
-pub copy-more : (l xs : List ℕ) (i : ℕ) → i < length xs → set (store l 0 (take i xs)) i (getD xs i 0) ≡ store l 0 (take (i + 1) xs)
-unfolding store
-copy-more l xs i h =
-    let e : 0 + i ≡ i = omega arith in
-    rw (add-one, take-suc xs i 0 h) (rw e at (store-behind l 0 i (take i xs) (getD xs i 0 ∷ []) (length-take-le i xs (omega arith))))
 
 -- a body that is not refused
 accepted : (r : Reading Parsed) (task : ℕ) → Positive r → bodyChecked r task .number ≡ 0 → bodyChecked r task ≡ stop 0 0

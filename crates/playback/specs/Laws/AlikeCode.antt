@@ -14,7 +14,7 @@ use Rattle.playback.specs.declared.finish.Played.{Played}
 use Rattle.playback.specs.Alike.{sameEntries, alikeOf, refusing, comparing, compared, sameOutcomeOf}
 use Rattle.playback.specs.Finish.{Play, shownPlay}
 use Rattle.playback.specs.ToEnd.{playOf}
-use Rattle.playback.specs.Laws.ToEndCode.{away, found, surveyed}
+use Rattle.playback.specs.Laws.ToEndCode.{away, found, located}
 
 -- what the two plays and the two tests on them came to
 pub compares : (x y : Play) (p q : Played) (m n : List ℕ) (s a : Bool) → p ≡ shownPlay x → q ≡ shownPlay y → m ≡ x .memory → n ≡ y .memory → s ≡ sameEntries m n → a ≡ alikeOf p q s → a ≡ comparing x y .answer .alike
@@ -28,22 +28,22 @@ both-ended x y m n a e g h = rw (e, g, h)
 module _ (b c m n : List ℕ) (l : Layout) (e : l ≡ layoutOf (parse b)) where
   pub first-away : (l .number ≡ 0 → ⊥) → refusing (l .number) (l .offset) m n ≡ sameOutcomeOf b c m n
   unfolding sameOutcomeOf compared
-  first-away z = elim (surveyed b l e) [ away d q i o p ↦ rw (q, i, o) | found p q i o ↦ absurd (z i) ]
+  first-away z = elim (located b l e) [ away d q i o p ↦ rw (q, i, o) | found p q i o ↦ absurd (z i) ]
 
   module _ (k : Layout) (z : l .number ≡ 0) (f : k ≡ layoutOf (parse c)) where
     pub second-away : (k .number ≡ 0 → ⊥) → refusing (k .number) (k .offset) m n ≡ sameOutcomeOf b c m n
     unfolding sameOutcomeOf compared
-    second-away y = elim (surveyed b l e) [
+    second-away y = elim (located b l e) [
       | away d q i o p ↦ absurd (omega arith)
-      | found p q i o ↦ elim (surveyed c k f) [ away d g j u v ↦ rw (q, g, j, u) | found d g j u ↦ absurd (y j) ]
+      | found p q i o ↦ elim (located c k f) [ away d g j u v ↦ rw (q, g, j, u) | found d g j u ↦ absurd (y j) ]
     ]
 
     module _ (y : k .number ≡ 0) where
       pub first-entries : (length m ≡ l .objects → ⊥) → refusing wrongLength 0 m n ≡ sameOutcomeOf b c m n
       unfolding sameOutcomeOf compared
-      first-entries h = elim (surveyed b l e) [
+      first-entries h = elim (located b l e) [
         | away d q i o p ↦ absurd (omega arith)
-        | found p q i o ↦ elim (surveyed c k f) [
+        | found p q i o ↦ elim (located c k f) [
           | away d g j u v ↦ absurd (omega arith)
           | found d g j u ↦ rw (q, g, ne-eqb (length m) (length (p .recording .owners)) (λ w. h (w ∙ sym o)))
         ]
@@ -52,9 +52,9 @@ module _ (b c m n : List ℕ) (l : Layout) (e : l ≡ layoutOf (parse b)) where
       module _ (x : length m ≡ l .objects) where
         pub second-entries : (length n ≡ k .objects → ⊥) → refusing wrongLength 0 m n ≡ sameOutcomeOf b c m n
         unfolding sameOutcomeOf compared
-        second-entries h = elim (surveyed b l e) [
+        second-entries h = elim (located b l e) [
           | away d q i o p ↦ absurd (omega arith)
-          | found p q i o ↦ elim (surveyed c k f) [
+          | found p q i o ↦ elim (located c k f) [
             | away d g j u v ↦ absurd (omega arith)
             | found d g j u ↦ rw (q, g, eq-eqb (length m) (length (p .recording .owners)) (x ∙ o), ne-eqb (length n) (length (d .recording .owners)) (λ w. h (w ∙ sym u)))
           ]
@@ -62,9 +62,9 @@ module _ (b c m n : List ℕ) (l : Layout) (e : l ≡ layoutOf (parse b)) where
 
         pub both-play : length n ≡ k .objects → comparing (playOf b m) (playOf c n) ≡ sameOutcomeOf b c m n
         unfolding sameOutcomeOf compared
-        both-play h = elim (surveyed b l e) [
+        both-play h = elim (located b l e) [
           | away d q i o p ↦ absurd (omega arith)
-          | found p q i o ↦ elim (surveyed c k f) [
+          | found p q i o ↦ elim (located c k f) [
             | away d g j u v ↦ absurd (omega arith)
             | found d g j u ↦ rw (q, g, eq-eqb (length m) (length (p .recording .owners)) (x ∙ o), eq-eqb (length n) (length (d .recording .owners)) (h ∙ u))
           ]

@@ -12,7 +12,7 @@ use Rattle.codec.specs.Laws.Kind.{write-no-read}
 use Rattle.history.specs.Entry.{Act, read, write, acquire}
 use Rattle.history.specs.Laws.OneMore.{oneMore-own, oneMore-other}
 use Rattle.history.specs.Replay.{oneMore}
-use Rattle.history.specs.Tally.{bit}
+use Rattle.codec.specs.Bit.{bit}
 use Rattle.reader.specs.Parse.{Parsed, parse}
 use Rattle.reader.specs.Reading.{read as reads}
 use Rattle.reader.specs.Recording.{Recording}

@@ -7,7 +7,8 @@ use native.Mathlib.Omega.{arith}
 use lib.Dec.{eqb}
 use lib.Pow.{pow-mono}
 use lib.Count.{ones, ones-step, trailingZeros, under}
-use Rattle.replayer.specs.Word.{bit, wordOf, hasBit, countOf, skip, lowestIn, readyCount, lowestReady}
+use Rattle.codec.specs.Bit.{bit}
+use Rattle.replayer.specs.Word.{wordOf, hasBit, countOf, skip, lowestIn, readyCount, lowestReady}
 
 pub bit-low : (b : Bool) → bit b ≤ 1
 bit-low true = omega arith

@@ -1,12 +1,12 @@
--- How text is put together: a byte, nothing, one text behind another, and a copy.
-use mathlib.Core.Path.{_≡_, refl, sym, ap, _∙_}
-use mathlib.Core.List.{List, [], _∷_, _++_, append-assoc, append-nil}
-use Prim.Native.Nat.{ℕ, _+_, _-_, _≤_}
+-- How text is put together: a byte, nothing, one text behind another.
+use mathlib.Core.Path.{_≡_, sym, ap, _∙_}
+use mathlib.Core.List.{List, [], _∷_, _++_}
+use Prim.Native.Nat.{ℕ, _+_, _≤_}
 use native.Mathlib.Omega.{arith}
-use lib.ListN.{length, set, take, drop, length-append, length-drop, drop-of-length-le}
-use lib.Seq.{take-length, drop-drop, length-take-le}
+use lib.ListN.{length, set, take, length-append}
+use lib.Seq.{length-take-le}
 use Rattle.io.specs.Counts.{Counts}
-use Rattle.codec.specs.Laws.Store.{store-none, store-cons, store-length, store-append, store-split}
+use Rattle.codec.specs.Laws.Store.{store-none, store-cons, store-length, store-append}
 use Rattle.text.specs.Appended.{Appended}
 
 pub one-byte : (l : List ℕ) (at b : ℕ) → Appended (b ∷ []) l at (set l at b) (at + 1)
@@ -29,16 +29,3 @@ same-room {text} {before} {at} a = ap length (a .filled) ∙ store-length before
 -- a text at the start of a buffer can be handed on as its first bytes
 pub counted : {text before : List ℕ} {after : List ℕ} {end : ℕ} → Appended text before 0 after end → length text ≤ length before → Counts end after
 counted {text} {after = after} {end = end} a h = let w : end ≤ length after = omega (arith, a .behind, same-room a) in (w, sym (length-take-le _ _ w))
-
--- a text copied to the start of the part from a place on
-pub copied : (l text part : List ℕ) (at : ℕ) → at + length text ≤ length l
-    → part ≡ take (length text) text ++ drop (length text) (take (length l - at) (drop at l))
-    → Appended text l at (take at l ++ (part ++ drop (length l - at) (drop at l))) (at + length text)
-copied l text part at h e =
-    let n : length (drop at l) ≡ length l - at = length-drop at l in
-    let z : drop (length l - at) (drop at l) ≡ [] = drop-of-length-le (drop at l) {i = length l - at} (omega arith) in
-    let w : take (length l - at) (drop at l) ≡ drop at l = rw (← n) (take-length (drop at l)) in
-    record {
-      behind = refl;
-      filled = rw (e, z, w, take-length text, drop-drop (length text) at l, append-nil, ← append-assoc (take at l) text (drop (at + length text) l)) (sym (store-split l at text h));
-    }

@@ -21,7 +21,7 @@ countersSound m =
     && lastSound (m .last) (m .tasks) (m .shares) (m .done)
     && tasksSound (m .tasks) (m .shares) (m .done) (m .seen) (m .took)
 
--- sound marks keep T and N in range
+-- sound counters keep T and N in range
 pub counters-low : (m : Counters) → countersSound m ≡ true → (m .tasks ≤ maxTasks) × (m .objects ≤ maxObjects)
 unfolding countersSound
 counters-low m e =
@@ -55,7 +55,7 @@ module _ (s : State) where
     | fails p ↦ rw p
   ]
 
-  -- the scan goes up to a number that is told by the marks: what is below it has a record and is an object, and there the scan is over
+  -- the scan goes up to a number that is told by the counters: what is below it has a record and is an object, and there the scan is over
   module _ (m : Counters) (e : m ≡ countersOf s) (n : ℕ) (q : n ≡ min (m .objects) maxObjects) where
     pub scan-low : (i : ℕ) → i < n → (i < maxObjects) × (i < s .objects)
     scan-low i h = let o = ap (λ (x : Counters). x .objects) e in (omega arith, omega arith)

@@ -1,4 +1,4 @@
--- A test as the number that it adds to a tally.
+-- A test as a number: a bit of a word, or what it adds to a tally.
 use mathlib.Core.Bool.{Bool, true, false}
 use Prim.Native.Nat.{ℕ}
 
