@@ -8,6 +8,7 @@ pub mod Matches
 pub mod OneCall
 pub mod Packed
 pub mod Replayed
+pub mod RunA
 pub mod Sim
 pub mod SimRun
 pub mod SimStart

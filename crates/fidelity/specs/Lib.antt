@@ -1,5 +1,6 @@
 pub mod Bench
 pub mod Box
 pub mod Filed
+pub mod RunA
 pub mod Statement
 pub mod Laws

@@ -51,6 +51,13 @@ module _ (o : Opening) (asked : List Asked) (outs : ℕ → List ℕ) (memory : 
   abbrev pub done : List ℕ → ℕ → ℕ
   done steps t = tallyOf t bytes (benchOf bytes memory) steps
 
+  -- what 3 and 6 below say of one place. By name, since `Laws/RunA` computes them on a run: what a sham would say there is false.
+  abbrev pub StaysAt : List ℕ → ℕ → Type 0
+  StaysAt steps t = stepped bytes (after steps) t ≡ after steps
+
+  abbrev pub MemoryAt : List ℕ → ℕ → Type 0
+  MemoryAt steps c = getD (after steps .memory) c 0 ≡ memoryOf (λ x. getD (o .starts) x 0) (done steps) history c
+
   pub record Faithful : Type 0 where
     -- 1. Each access answers the reference memory's value, and the recorder's memory ends equal to it.
     pub answers-reference : answersFrom (firstBox o) (callsOf asked) ≡ referenceValues (o .starts) (fed o asked)
@@ -62,7 +69,7 @@ module _ (o : Opening) (asked : List Asked) (outs : ℕ → List ℕ) (memory : 
     -- 3. A step is taken exactly when its task is ready: it has accesses left, and every ordering before its next one is met.
     -- A step that is not taken leaves run and memory as they were.
     pub taken-when-ready : (steps : List ℕ) (t : ℕ) → (takes bytes (after steps) t ≡ true) ↔ Ready history (done steps) t
-    pub refused-changes-nothing : (steps : List ℕ) (t : ℕ) → takes bytes (after steps) t ≡ false → stepped bytes (after steps) t ≡ after steps
+    pub refused-changes-nothing : (steps : List ℕ) (t : ℕ) → takes bytes (after steps) t ≡ false → StaysAt steps t
     -- 4. A task's k-th taken step answers access number k and the sort, object and value of its accepted access k.
     pub answers-recorded : (steps : List ℕ) (t : ℕ) → takes bytes (after steps) t ≡ true
         → (e : Entry) × Access history t (suc (done steps t)) e
@@ -72,8 +79,7 @@ module _ (o : Opening) (asked : List Asked) (outs : ℕ → List ℕ) (memory : 
     pub word-ready : (steps : List ℕ) (t : ℕ) → (hasBit (readyOf (after steps .run) bytes .word) t ≡ true) ↔ Ready history (done steps) t
     -- 6. At first and after each step memory has, cell by cell, the starting value or the latest write among the accesses done.
     pub memory-entries : (steps : List ℕ) → length (after steps .memory) ≡ o .objects
-    pub memory-of-writes : (steps : List ℕ) (c : ℕ) → c < o .objects
-        → getD (after steps .memory) c 0 ≡ memoryOf (λ x. getD (o .starts) x 0) (done steps) history c
+    pub memory-of-writes : (steps : List ℕ) (c : ℕ) → c < o .objects → MemoryAt steps c
     -- 7. No more steps are taken than accesses were accepted; the word is 0 exactly when as many; memory is then the box's.
     pub never-more : (steps : List ℕ) → tally bytes (benchOf bytes memory) steps ≤ length history
     pub stops-at-end : (steps : List ℕ) → (readyOf (after steps .run) bytes .word ≡ 0) ↔ (tally bytes (benchOf bytes memory) steps ≡ length history)

@@ -1,0 +1,56 @@
+-- The statement's claims on memory, computed on run A: where a sham (document 01, "Sham builds") would show other values.
+use mathlib.Core.List.{[], _∷_}
+use mathlib.Core.Path.{refl}
+use Rattle.codec.specs.Decode.{recordOf, headOf, sectionOf as sectionOf-codec-decode, bodyOf as bodyOf-codec-decode}
+use Rattle.codec.specs.Encode.{ordering, opOf, access, start, startTwo, head, headObject, headObjects, section}
+use Rattle.codec.specs.Field.{le2, le4, field2, field4}
+use Rattle.codec.specs.Kind.{storesValue, writes}
+use Rattle.codec.specs.Store.{store}
+use Rattle.reader.specs.Body.{walkOf, judged, tally, bodyEntries, bodyFrom}
+use Rattle.reader.specs.Bytes.{orderingsBytes, entryBytes, bodyBytes, sectionsBytes, bytesOf}
+use Rattle.reader.specs.Calls.{checkedOf}
+use Rattle.reader.specs.Entry.{entryAt, entryFrom, onRecord, accessOf as accessOf-reader-entry, accessOk, orderingOk}
+use Rattle.reader.specs.Parse.{allBelow, parse, headAt, onHead, sectionsAfter, ownersOf, valuesOf, sizesOk}
+use Rattle.reader.specs.Part.{part}
+use Rattle.reader.specs.Section.{sectionsOf, sectionAt, onSection, sectionBody, taken}
+use Rattle.recorder.specs.AccessOf.{accessOf, accessNumber, checked, accepted, refused}
+use Rattle.recorder.specs.OpenOf.{openOf, opened, openNumber, entriesOk}
+use Rattle.sections.specs.SectionOf.{sectionOf, sectionChecked, logChecked}
+use Rattle.recorder.specs.WholeRun.{outcome, called, calledAll, packed}
+use Rattle.replayer.specs.All.{allFrom}
+use Rattle.replayer.specs.Met.{allMet}
+use Rattle.replayer.specs.Next.{entryNext, judged as judged-replayer-next, nextOf as nextOf-replayer-next}
+use Rattle.replayer.specs.OpenOf.{startsOf, onParse, openOf as openOf-replayer-openof}
+use Rattle.replayer.specs.ReadyOf.{isReady, readyOf}
+use Rattle.replayer.specs.Run.{movedOf}
+use Rattle.replayer.specs.Sound.{taskSound as taskSound-replayer-sound, soundOf as soundOf-replayer-sound}
+use Rattle.replayer.specs.StepOf.{earlyNumber, onNext, stepOf}
+use Rattle.replayer.specs.Word.{wordOf}
+use Rattle.tracker.specs.Class.{classOf}
+use Rattle.tracker.specs.Next.{stateAfter, localityAfter, effectOf}
+use Rattle.tracker.specs.Opened.{openedState, ownedRecords}
+use Rattle.tracker.specs.Orderings.{orderingsOf, everyDone, written, leftOut}
+use Rattle.codec.specs.Limit.{isWithin}
+use Rattle.tracker.specs.Range.{allBelow as allBelow-tracker-range}
+use Rattle.tracker.specs.Row.{rowOf}
+use Rattle.tracker.specs.Sound.{soundOf, lastSound, taskSound, tasksSound, objectSound}
+use Rattle.tracker.specs.Sum.{sumOf}
+use Rattle.history.specs.History.{count}
+use Rattle.history.specs.Entry.{writes as writesCell, valueOf as valueOf-history-entry}
+use Rattle.history.specs.Memory.{memoryOf}
+use Rattle.history.specs.Replay.{recordedOrder}
+use Rattle.fidelity.specs.Box.{recordedFrom}
+use Rattle.fidelity.specs.Bench.{steppedAll, tally as tallySteps, tallyOf}
+use Rattle.fidelity.specs.RunA.{opening, calls, outs, lent}
+use Rattle.fidelity.specs.Statement.{StaysAt, MemoryAt}
+
+-- memory at first and after one step; and a step of task 0 that is then refused. A replay that plays all at opening would have 9 and 9
+-- in object 0 where these have 0 and 7, and a refused step that clears it 0 for 7.
+pub record Stood : Type 0 where
+  pub first : MemoryAt opening calls outs lent [] 0
+  pub second : MemoryAt opening calls outs lent (0 ∷ []) 0
+  pub refused : StaysAt opening calls outs lent (0 ∷ []) 0
+
+pub stood : Stood
+unfolding openOf opened openNumber entriesOk allBelow openedState ownedRecords outcome called calledAll packed accessOf accessNumber checked accepted refused soundOf lastSound taskSound tasksSound objectSound sumOf isWithin allBelow-tracker-range rowOf orderingsOf everyDone written leftOut stateAfter localityAfter effectOf classOf store orderingsBytes entryBytes ordering opOf access storesValue writes start startTwo le2 le4 head headObject headObjects section sectionOf sectionChecked logChecked walkOf judged tally bodyEntries bodyFrom entryAt entryFrom onRecord accessOf-reader-entry accessOk orderingOk recordOf headOf sectionOf-codec-decode bodyOf-codec-decode field2 field4 checkedOf parse headAt onHead sectionsAfter sectionsOf sectionAt onSection sectionBody taken ownersOf valuesOf sizesOk bodyBytes sectionsBytes bytesOf part allFrom taskSound-replayer-sound soundOf-replayer-sound allMet movedOf entryNext judged-replayer-next nextOf-replayer-next wordOf isReady readyOf startsOf onParse openOf-replayer-openof earlyNumber onNext stepOf recordedFrom steppedAll tallySteps tallyOf memoryOf count recordedOrder
+stood = record { first = refl; second = refl; refused = refl }
