@@ -40,7 +40,7 @@ fn records_of(halves: &[u16; 548], words: &[u32; 273]) -> [ObjectRecord; OBJECTS
 {
     let blank = record_of(0, 0, 0);
     let mut records = [blank; OBJECTS];
-    for i in 0..256 {
+    for i in 0..OBJECTS {
         let record = record_of(halves[36 + i], halves[292 + i], words[17 + i]);
         records[i] = record;
     }
@@ -54,7 +54,7 @@ fn counters_of(halves: &[u16; 548], words: &[u32; 273]) -> Counters
     let mut done = [0u16; TASKS];
     let mut seen = [0u32; TASKS];
     let mut took = [0u16; TASKS];
-    for t in 0..16 {
+    for t in 0..TASKS {
         done[t] = halves[4 + t];
         seen[t] = words[1 + t];
         took[t] = halves[20 + t];
@@ -109,7 +109,7 @@ fn put_records(records: [ObjectRecord; OBJECTS], halves: &mut [u16; 548], words:
     ensures { λ _. ⌜ now (halves .exit) ≡ store (store (now (halves .entry)) 36 (casesOf records maxObjects)) 292 (holdersOf records maxObjects) ⌝ }
     ensures { λ _. ⌜ now (words .exit) ≡ store (now (words .entry)) 17 (sharesOf records maxObjects) ⌝ }
 {
-    for i in 0..256 {
+    for i in 0..OBJECTS {
         let record = records[i];
         let locality = record.locality;
         halves[36 + i] = case_of(locality);
@@ -128,7 +128,7 @@ fn put_tasks(
     ensures { λ _. ⌜ now (halves .exit) ≡ store (store (now (halves .entry)) 4 (firstOf done maxTasks)) 20 (firstOf took maxTasks) ⌝ }
     ensures { λ _. ⌜ now (words .exit) ≡ store (now (words .entry)) 1 (firstOf seen maxTasks) ⌝ }
 {
-    for t in 0..16 {
+    for t in 0..TASKS {
         halves[4 + t] = done[t];
         words[1 + t] = seen[t];
         halves[20 + t] = took[t];
@@ -163,7 +163,7 @@ pub fn run_of(places: &[usize; 66]) -> Run
         count: 0,
     };
     let mut runs = [blank; TASKS];
-    for t in 0..16 {
+    for t in 0..TASKS {
         let x = TaskRun {
             place: places[2 + 4 * t],
             end: places[3 + 4 * t],
@@ -184,7 +184,7 @@ pub fn put_run(run: Run, places: &mut [usize; 66])
 {
     places[0] = run.tasks;
     places[1] = run.objects;
-    for t in 0..16 {
+    for t in 0..TASKS {
         let x = run.runs[t];
         places[2 + 4 * t] = x.place;
         places[3 + 4 * t] = x.end;

@@ -18,7 +18,7 @@ pub(crate) fn columns_of(run: Run) -> Columns
     let mut ends = [0usize; TASKS];
     let mut dones = [0usize; TASKS];
     let mut counts = [0usize; TASKS];
-    for t in 0..16 {
+    for t in 0..TASKS {
         let x = run.runs[t];
         places[t] = x.place;
         ends[t] = x.end;

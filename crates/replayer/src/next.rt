@@ -110,7 +110,7 @@ pub(crate) fn dones_of(run: Run) -> [usize; TASKS]
     ensures { λ r. ⌜ r ≡ donesOf (run .runs) ⌝ }
 {
     let mut dones = [0usize; TASKS];
-    for t in 0..16 {
+    for t in 0..TASKS {
         let x = run.runs[t];
         dones[t] = x.done;
     }

@@ -12,7 +12,7 @@ abbrev Inv-loop : tie.InvT-loop
 Inv-loop halves words done₀ seen₀ took₀ t₀ done seen took t = Filled (λ k. getD halves (4 + k) 0) maxTasks done t × Filled (λ k. getD words (1 + k) 0) maxTasks seen t × Filled (λ k. getD halves (20 + k) 0) maxTasks took t
 
 abbrev μ-loop : tie.MeasureT-loop
-μ-loop halves words done₀ seen₀ took₀ t₀ done seen took t = 16 - t
+μ-loop halves words done₀ seen₀ took₀ t₀ done seen took t = maxTasks - t
 
 loop-holds : tie.Need-loop-holds Inv-loop μ-loop
 loop-holds c = (filled-none _ _ _ refl, filled-none _ _ _ refl, filled-none _ _ _ refl)

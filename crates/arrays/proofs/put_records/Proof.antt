@@ -17,7 +17,7 @@ Inv-loop halves₀ words₀ records i₀ halves words i =
 
 abbrev μ-loop : tie.MeasureT-loop
 μ-loop halves₀ words₀ records i₀ halves words i =
-    256 - i
+    maxObjects - i
 
 loop-holds : tie.Need-loop-holds Inv-loop μ-loop
 loop-holds c = (omega arith, two-none _ _ _ _ _, one-none _ _ _)

@@ -15,7 +15,7 @@ Inv-loop places₀ run t₀ places t =
 
 abbrev μ-loop : tie.MeasureT-loop
 μ-loop places₀ run t₀ places t =
-    16 - t
+    maxTasks - t
 
 element-write-places : tie.Need-element-write-places Inv-loop μ-loop
 element-write-places c = search needs

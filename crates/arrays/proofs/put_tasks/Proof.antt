@@ -17,7 +17,7 @@ Inv-loop halves₀ words₀ done seen took t₀ halves words t =
 
 abbrev μ-loop : tie.MeasureT-loop
 μ-loop halves₀ words₀ done seen took t₀ halves words t =
-    16 - t
+    maxTasks - t
 
 loop-holds : tie.Need-loop-holds Inv-loop μ-loop
 loop-holds c = (omega arith, two-none _ _ _ _ _, one-none _ _ _)

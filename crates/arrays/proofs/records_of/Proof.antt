@@ -12,7 +12,7 @@ abbrev Inv-loop : tie.InvT-loop
 Inv-loop halves words records₀ i₀ records i = Filled (recordIn halves words) maxObjects records i
 
 abbrev μ-loop : tie.MeasureT-loop
-μ-loop halves words records₀ i₀ records i = 256 - i
+μ-loop halves words records₀ i₀ records i = maxObjects - i
 
 record-of-requires : tie.Need-record-of-requires Inv-loop μ-loop
 record-of-requires c κs = search needs

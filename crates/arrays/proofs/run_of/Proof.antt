@@ -12,7 +12,7 @@ abbrev Inv-loop : tie.InvT-loop
 Inv-loop places runs₀ t₀ runs t = Filled (taskIn places) maxTasks runs t
 
 abbrev μ-loop : tie.MeasureT-loop
-μ-loop places runs₀ t₀ runs t = 16 - t
+μ-loop places runs₀ t₀ runs t = maxTasks - t
 
 loop-holds : tie.Need-loop-holds Inv-loop μ-loop
 loop-holds c = filled-none _ _ _ refl

@@ -45,19 +45,19 @@ module _ (v₀ v₁ v₂ v₃ : ℕ) (done took cases holders : ℕ → ℕ) (k 
 
   past-tasks : (i j : ℕ) → i ≡ 36 + j → getD stored i 0 ≡ getD objects j 0
   past-tasks i j e =
-      past-counters i (32 + j) (omega arith) ∙ past done maxTasks (16 + j) (32 + j) (each took maxTasks ++ objects) (omega arith) ∙ past took maxTasks j (16 + j) objects refl
+      past-counters i (32 + j) (omega arith) ∙ past done maxTasks (maxTasks + j) (32 + j) (each took maxTasks ++ objects) (omega arith) ∙ past took maxTasks j (maxTasks + j) objects refl
 
   done-at : k < maxTasks → getD stored (4 + k) 0 ≡ done k
   done-at h = past-counters (4 + k) k refl ∙ front done maxTasks k (each took maxTasks ++ objects) h
 
   took-at : k < maxTasks → getD stored (20 + k) 0 ≡ took k
-  took-at h = past-counters (20 + k) (16 + k) (omega arith) ∙ past done maxTasks k (16 + k) (each took maxTasks ++ objects) refl ∙ front took maxTasks k objects h
+  took-at h = past-counters (20 + k) (maxTasks + k) (omega arith) ∙ past done maxTasks k (maxTasks + k) (each took maxTasks ++ objects) refl ∙ front took maxTasks k objects h
 
   case-at : k < maxObjects → getD stored (36 + k) 0 ≡ cases k
   case-at h = past-tasks (36 + k) k refl ∙ front cases maxObjects k (each holders maxObjects) h
 
   holder-at : k < maxObjects → getD stored (292 + k) 0 ≡ holders k
-  holder-at h = past-tasks (292 + k) (256 + k) (omega arith) ∙ past cases maxObjects k (256 + k) (each holders maxObjects) refl ∙ each-at holders maxObjects k 0 h
+  holder-at h = past-tasks (292 + k) (maxObjects + k) (omega arith) ∙ past cases maxObjects k (maxObjects + k) (each holders maxObjects) refl ∙ each-at holders maxObjects k 0 h
 
 module _ (v : ℕ) (seen shares : ℕ → ℕ) (k : ℕ) where
   abbrev counts : List ℕ
@@ -68,8 +68,8 @@ module _ (v : ℕ) (seen shares : ℕ → ℕ) (k : ℕ) where
 
   share-at : k < maxObjects → getD counts (17 + k) 0 ≡ shares k
   share-at h =
-      let e : 17 + k ≡ 1 + (16 + k) = omega arith in
-      rw e (getD-append-add (v ∷ []) (each seen maxTasks ++ each shares maxObjects) (16 + k) 0) ∙ past seen maxTasks k (16 + k) (each shares maxObjects) refl ∙ each-at shares maxObjects k 0 h
+      let e : 17 + k ≡ 1 + (maxTasks + k) = omega arith in
+      rw e (getD-append-add (v ∷ []) (each seen maxTasks ++ each shares maxObjects) (maxTasks + k) 0) ∙ past seen maxTasks k (maxTasks + k) (each shares maxObjects) refl ∙ each-at shares maxObjects k 0 h
 
 halves-length : (s : State) → length (halvesOf s) ≡ 548
 halves-length s = simp (length-append, each-length)

@@ -35,16 +35,16 @@ starts-more spans n = rw add-one
 
 -- no task at 16 or above is set
 pub starts-clipped : (spans : List Span) (n : ℕ) → startsOf spans (min n maxTasks) ≡ startsOf spans n
-starts-clipped spans n = elim (decLt n 17) [
+starts-clipped spans n = elim (decLt n (maxTasks + 1)) [
   | yes h ↦ let e : min n maxTasks ≡ n = omega arith in rw e
-  | no h ↦ let e : min n maxTasks ≡ maxTasks = omega (arith, h) in let f : n ≡ 16 + (n - 16) = omega (arith, h) in rw e (rw f (sym (beyond (n - 16))))
+  | no h ↦ let e : min n maxTasks ≡ maxTasks = omega (arith, h) in let f : n ≡ maxTasks + (n - maxTasks) = omega (arith, h) in rw e (rw f (sym (beyond (n - maxTasks))))
 ]
   where
-    beyond : (k : ℕ) → startsOf spans (16 + k) ≡ startsOf spans maxTasks
+    beyond : (k : ℕ) → startsOf spans (maxTasks + k) ≡ startsOf spans maxTasks
     beyond zero = refl
     beyond (suc k) =
-        let e : 16 + suc k ≡ (16 + k) + 1 = omega arith in
-        rw (e, starts-more spans (16 + k), set-out (startsOf spans (16 + k)) (16 + k) (startOf (getD spans (16 + k) noSpan)) (omega (arith, starts-length spans (16 + k)))) (beyond k)
+        let e : maxTasks + suc k ≡ (maxTasks + k) + 1 = omega arith in
+        rw (e, starts-more spans (maxTasks + k), set-out (startsOf spans (maxTasks + k)) (maxTasks + k) (startOf (getD spans (maxTasks + k) noSpan)) (omega (arith, starts-length spans (maxTasks + k)))) (beyond k)
 
 starts-same : (a b : List Span) (n : ℕ) → ((t : ℕ) → t < n → getD a t noSpan ≡ getD b t noSpan) → startsOf a n ≡ startsOf b n
 unfolding startsOf

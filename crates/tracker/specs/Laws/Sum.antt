@@ -36,7 +36,7 @@ sum-rises xs t (suc n) l h =
     (eq-or-lt-of-le (le-of-suc-le-suc h))
 
 -- counts of 65,535 at most have a sum that fits 32 bits
-pub sum-bound : (xs : List ℕ) (n : ℕ) → ((i : ℕ) → i < n → getD xs i 0 ≤ maxAccesses) → sumOf xs n ≤ 65535 * n
+pub sum-bound : (xs : List ℕ) (n : ℕ) → ((i : ℕ) → i < n → getD xs i 0 ≤ maxAccesses) → sumOf xs n ≤ maxAccesses * n
 unfolding sumOf
 sum-bound xs zero h = omega arith
 sum-bound xs (suc n) h = omega (arith, sum-bound xs n (λ (i : ℕ) (k : i < n). h i (omega arith)), h n (omega arith))

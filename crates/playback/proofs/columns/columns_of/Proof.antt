@@ -12,7 +12,7 @@ abbrev Inv-loop : tie.InvT-loop
 Inv-loop run places₀ ends₀ dones₀ counts₀ t₀ places ends dones counts t = Filled (placeOf (run .runs)) maxTasks places t × Filled (endOf (run .runs)) maxTasks ends t × Filled (doneOf (run .runs)) maxTasks dones t × Filled (countOf (run .runs)) maxTasks counts t
 
 abbrev μ-loop : tie.MeasureT-loop
-μ-loop run places₀ ends₀ dones₀ counts₀ t₀ places ends dones counts t = 16 - t
+μ-loop run places₀ ends₀ dones₀ counts₀ t₀ places ends dones counts t = maxTasks - t
 
 loop-holds : tie.Need-loop-holds Inv-loop μ-loop
 loop-holds c = (filled-none _ _ _ refl, filled-none _ _ _ refl, filled-none _ _ _ refl, filled-none _ _ _ refl)

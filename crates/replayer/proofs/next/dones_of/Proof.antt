@@ -11,7 +11,7 @@ abbrev Inv-loop : tie.InvT-loop
 Inv-loop run dones₀ t₀ dones t = Filled (doneOf (run .runs)) maxTasks dones t
 
 abbrev μ-loop : tie.MeasureT-loop
-μ-loop run dones₀ t₀ dones t = 16 - t
+μ-loop run dones₀ t₀ dones t = maxTasks - t
 
 loop-holds : tie.Need-loop-holds Inv-loop μ-loop
 loop-holds c = filled-none _ _ _ refl

@@ -18,7 +18,7 @@ use Rattle.tracker.proofs.sound.tasks_sound.Tie as tie
 
 abbrev Inv-loop : tie.InvT-loop
 Inv-loop tasks shares done seen took n sum₀ i₀ sum i =
-    (i ≤ n) × ((allBelow (taskSoundAt done seen took shares) i ≡ true) × ((sum ≡ sumOf done i) × (sum ≤ 65535 * i)))
+    (i ≤ n) × ((allBelow (taskSoundAt done seen took shares) i ≡ true) × ((sum ≡ sumOf done i) × (sum ≤ maxAccesses * i)))
 
 abbrev μ-loop : tie.MeasureT-loop
 μ-loop tasks shares done seen took n sum₀ i₀ sum i = n - i
