@@ -12,7 +12,7 @@ use Rattle.tracker.specs.declared.Locality.the-variants.{WriteExclusive, ReadEx
 use Rattle.tracker.specs.declared.ObjectRecord.{ObjectRecord}
 use Rattle.tracker.specs.declared.State.{State}
 use Rattle.tracker.specs.State.{holderOf, shareOf, owned, position}
-use Rattle.replayer.specs.Each.{each}
+use Rattle.pending.specs.Each.{each}
 
 -- An object's record by its case, task and share number. A case above 2 means nothing: it is read as shared with share number 0, which
 -- document 01 calls unsound, so that every call on it gives 17.

@@ -3,10 +3,10 @@ use mathlib.Core.List.{List, [], _∷_, _++_}
 use Prim.Native.Nat.{ℕ, zero, suc, _+_, _*_}
 use lib.ListN.{getD}
 use Rattle.codec.specs.Limit.{maxTasks}
-use Rattle.replayer.specs.declared.TaskRun.{TaskRun}
-use Rattle.replayer.specs.declared.Run.{Run}
-use Rattle.replayer.specs.Run.{taskAt}
-use Rattle.replayer.specs.Each.{each}
+use Rattle.pending.specs.declared.TaskRun.{TaskRun}
+use Rattle.pending.specs.declared.Run.{Run}
+use Rattle.pending.specs.Run.{taskAt}
+use Rattle.pending.specs.Each.{each}
 
 -- the run that an array means
 abbrev pub taskIn : List ℕ → ℕ → TaskRun

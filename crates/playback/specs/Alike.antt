@@ -11,7 +11,7 @@ use Rattle.reader.specs.Reading.{Reading, refused, read}
 use Rattle.codec.specs.Number.{entries as wrongLength}
 use Rattle.playback.specs.declared.alike.Compared.{Compared}
 use Rattle.playback.specs.declared.finish.Played.{Played}
-use Rattle.replayer.specs.All.{allFrom}
+use Rattle.pending.specs.All.{allFrom}
 use Rattle.playback.specs.Finish.{Play, shownPlay}
 use Rattle.playback.specs.ToEnd.{playOf}
 

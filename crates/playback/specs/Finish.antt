@@ -5,16 +5,16 @@ use mathlib.Core.List.{List}
 use Prim.Native.Nat.{ℕ, zero, suc, _+_, _-_, min}
 use lib.Dec.{eqb}
 use lib.ListN.{length}
-use Rattle.replayer.specs.declared.TaskRun.{TaskRun}
-use Rattle.replayer.specs.declared.Run.{Run}
+use Rattle.pending.specs.declared.TaskRun.{TaskRun}
+use Rattle.pending.specs.declared.Run.{Run}
 use Rattle.codec.specs.Limit.{maxTasks}
 use Rattle.codec.specs.Number.{unsound}
 use Rattle.playback.specs.declared.finish.Completion.{Completion}
 use Rattle.playback.specs.declared.finish.Played.{Played}
-use Rattle.replayer.specs.All.{allFrom}
+use Rattle.pending.specs.All.{allFrom}
 use Rattle.replayer.specs.ReadyOf.{hasLeft, readyOf}
-use Rattle.replayer.specs.Run.{taskAt}
-use Rattle.replayer.specs.Sound.{soundOf}
+use Rattle.pending.specs.Run.{taskAt}
+use Rattle.pending.specs.Sound.{soundOf}
 use Rattle.replayer.specs.StepOf.{stepOf}
 use Rattle.replayer.specs.Word.{lowestReady}
 

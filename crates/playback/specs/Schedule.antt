@@ -4,13 +4,13 @@ use mathlib.Core.Bool.{cond}
 use mathlib.Core.List.{List, [], _∷_}
 use Prim.Native.Nat.{ℕ, zero, suc, _+_}
 use lib.Dec.{eqb}
-use Rattle.replayer.specs.declared.Run.{Run}
-use Rattle.replayer.specs.declared.next.Next.{Next}
-use Rattle.replayer.specs.declared.next.Next.the-variants.{Open, Held, Refused}
+use Rattle.pending.specs.declared.Run.{Run}
+use Rattle.pending.specs.declared.next.Next.{Next}
+use Rattle.pending.specs.declared.next.Next.the-variants.{Open, Held, Refused}
 use Rattle.playback.specs.Finish.{Play, leftOver}
-use Rattle.replayer.specs.Next.{nextOf}
+use Rattle.pending.specs.Next.{nextOf}
 use Rattle.replayer.specs.ReadyOf.{readyOf}
-use Rattle.replayer.specs.Run.{movedOf}
+use Rattle.pending.specs.Run.{movedOf}
 use Rattle.replayer.specs.StepOf.{stepOf}
 use Rattle.replayer.specs.Word.{lowestReady}
 

@@ -2,7 +2,7 @@
 ghost use mathlib.Core.Path.{_≡_};
 ghost use Rattle.playback.specs.Laws.Columns.{columnsOf};
 use codec::limit::TASKS;
-use replayer::Run;
+use pending::Run;
 
 pub(crate) struct Columns {
     pub places: [usize; TASKS],

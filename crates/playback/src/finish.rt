@@ -10,8 +10,8 @@ use crate::lowest::lowest;
 use codec::limit::TASKS;
 use codec::limit::least;
 use codec::number::UNSOUND;
-use replayer::Run;
-use replayer::sound::sound;
+use pending::Run;
+use pending::sound::sound;
 use replayer::stepping::perform;
 
 // Whether a run has finished; 17 and no for one that is not sound.

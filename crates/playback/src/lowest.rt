@@ -7,8 +7,8 @@ use crate::visit::visit;
 use codec::Op;
 use codec::limit::TASKS;
 use reader::Limits;
-use replayer::TaskRun;
-use replayer::next::Next;
+use pending::TaskRun;
+use pending::next::Next;
 
 // The lowest ready task and its next access; or no task is ready.
 pub(crate) enum NextStep {

@@ -7,8 +7,8 @@ use crate::columns::columns_of;
 use crate::lowest::NextStep;
 use crate::lowest::lowest;
 use codec::limit::TASKS;
-use replayer::Run;
-use replayer::sound::sound;
+use pending::Run;
+use pending::sound::sound;
 
 // Writes the tasks from the start of the buffer, a byte a step, until no task is ready or the buffer is full, and answers how many.
 pub fn schedule(run: Run, bytes: &[u8], out: &mut [u8]) -> usize

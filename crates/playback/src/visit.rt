@@ -3,15 +3,15 @@
 ghost use Prim.Native.Nat.{_≤_, _<_};
 ghost use lib.ListN.{length, getD};
 ghost use Rattle.codec.specs.Limit.{maxTasks};
-ghost use Rattle.replayer.specs.declared.Run.{Run};
-ghost use Rattle.replayer.specs.Laws.Look.{OneTask};
+ghost use Rattle.pending.specs.declared.Run.{Run};
+ghost use Rattle.pending.specs.Laws.Look.{OneTask};
 ghost use Rattle.playback.specs.Laws.Visit.{Note, Noted, Visited};
 use codec::limit::TASKS;
 use reader::Limits;
-use replayer::TaskRun;
-use replayer::next::Next;
-use replayer::next::first_unmet;
-use replayer::next::look_at;
+use pending::TaskRun;
+use pending::next::Next;
+use pending::next::first_unmet;
+use pending::next::look_at;
 
 // What stands next for a task, held where it has no accesses left. The note of a task is the place of the access's record, and the place
 // of the first ordering before it that was not met. A step leads past that record, and so it ends the note.

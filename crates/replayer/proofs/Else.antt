@@ -5,23 +5,15 @@ use Prim.Native.Nat.{ℕ}
 use types.Run.{OneOf, miss}
 use denote.Enum.Declared.{tagOf}
 use mathlib.Core.Bool.{true, false}
-use Rattle.reader.proofs.entry.Found.{the-type as found-type}
-use Rattle.reader.specs.declared.entry.Found.{Found}
-use Rattle.reader.specs.declared.entry.Found.the-variants.{Access as FoundAccess, Refused as FoundRefused}
-use Rattle.replayer.proofs.next.Next.{the-type as next-type}
-use Rattle.replayer.specs.declared.Run.{Run}
-use Rattle.replayer.specs.declared.next.Next.{Next}
-use Rattle.replayer.specs.declared.next.Next.the-variants.{Open, Held, Refused}
+use Rattle.pending.proofs.next.Next.{the-type as next-type}
+use Rattle.pending.specs.declared.Run.{Run}
+use Rattle.pending.specs.declared.next.Next.{Next}
+use Rattle.pending.specs.declared.next.Next.the-variants.{Open, Held, Refused}
 use Rattle.codec.specs.Number.{held}
 use Rattle.reader.specs.Reading.{stop}
-use Rattle.replayer.specs.Laws.Next.{refusalOf}
-use Rattle.replayer.specs.Next.{isOpen}
+use Rattle.pending.specs.Next.{isOpen}
 use Rattle.replayer.specs.StepOf.{refusedStep, onNext}
 use Rattle.replayer.specs.Laws.StepOf.{lateRefusal}
-
-pub not-found : (f : Found) → OneOf (1 ∷ []) (tagOf found-type f) → f ≡ FoundRefused (refusalOf f)
-not-found (FoundAccess o a n) h = absurd (miss (1 ∷ []) 0 tt h)
-not-found (FoundRefused c) h = refl
 
 pub not-open : (run : Run) (memory : List ℕ) (task : ℕ) (n : Next) → OneOf (1 ∷ 2 ∷ []) (tagOf next-type n)
     → onNext run memory task n ≡ record { answer = refusedStep run (lateRefusal n .number) (lateRefusal n .offset); memory = memory }
@@ -50,7 +42,3 @@ pub late-refusal-held : (n : Next) → OneOf (1 ∷ []) (tagOf next-type n) → 
 late-refusal-held (Open o k) h = absurd (miss (1 ∷ []) 0 tt h)
 late-refusal-held Held h = refl
 late-refusal-held (Refused c) h = absurd (miss (1 ∷ []) 2 tt h)
-
-pub refusal-none : (f : Found) → OneOf (0 ∷ []) (tagOf found-type f) → stop 0 0 ≡ refusalOf f
-refusal-none (FoundAccess o a n) h = refl
-refusal-none (FoundRefused c) h = absurd (miss (0 ∷ []) 1 tt h)

@@ -1,15 +1,7 @@
-pub mod All
-pub mod Dones
-pub mod Each
-pub mod FirstUnmet
 pub mod Left
-pub mod Look
-pub mod Moved
-pub mod Next
 pub mod OpenCode
 pub mod OpenOf
 pub mod ReadyOf
-pub mod Sound
 pub mod StepCode
 pub mod StepOf
 pub mod Word

@@ -1,16 +1,7 @@
-pub mod All
-pub mod Dones
-pub mod Each
-pub mod FirstUnmet
 pub mod InPlace
 pub mod Laws
-pub mod Look
 pub mod Memory
-pub mod Met
-pub mod Next
 pub mod OpenOf
 pub mod ReadyOf
-pub mod Run
-pub mod Sound
 pub mod StepOf
 pub mod Word

@@ -2,7 +2,7 @@
 ghost use mathlib.Core.Path.{_≡_};
 ghost use Rattle.replayer.specs.StepOf.{stepOf};
 ghost use Rattle.replayer.specs.InPlace.{shownOf};
-use crate::Run;
+use pending::Run;
 use crate::Stepped;
 use crate::step;
 

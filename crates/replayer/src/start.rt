@@ -2,10 +2,10 @@
 ghost use mathlib.Core.Path.{_≡_};
 ghost use Rattle.reader.specs.Starting.{startingIn};
 ghost use Rattle.replayer.specs.OpenOf.{startsOf, begunOf, refusedOpen};
-ghost use Rattle.replayer.specs.Run.{blankTasks};
+ghost use Rattle.pending.specs.Run.{blankTasks};
 use crate::Opened;
-use crate::Run;
-use crate::TaskRun;
+use pending::Run;
+use pending::TaskRun;
 use codec::limit::TASKS;
 use codec::limit::least;
 use reader::Span;

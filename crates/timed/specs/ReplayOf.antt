@@ -5,7 +5,7 @@ use mathlib.Core.List.{List}
 use Prim.Native.Nat.{ℕ, zero, suc}
 use lib.Dec.{eqb}
 use lib.ListN.{length}
-use Rattle.replayer.specs.declared.Run.{Run}
+use Rattle.pending.specs.declared.Run.{Run}
 use Rattle.replayer.specs.OpenOf.{OpenOutcome, openOf}
 use Rattle.replayer.specs.ReadyOf.{readyOf}
 use Rattle.replayer.specs.StepOf.{StepOutcome, stepOf}

@@ -3,7 +3,7 @@ use mathlib.Core.Path.{refl}
 use Prim.Native.Nat.{_+_, _-_}
 use lib.ListN.{getD}
 use Rattle.codec.specs.Limit.{maxTasks}
-use Rattle.replayer.specs.Laws.Each.{Filled, filled-none, filled-more, filled-all}
+use Rattle.pending.specs.Laws.Each.{Filled, filled-none, filled-more, filled-all}
 use borrow.Author.Needs.{needs}
 use Rattle.arrays.proofs.counters_of.Statement.{statement}
 use Rattle.arrays.proofs.counters_of.Tie as tie

@@ -1,5 +1,5 @@
 use Rattle.codec.specs.Limit.{maxTasks, maxObjects}
-use Rattle.replayer.specs.Laws.Each.{each-length}
+use Rattle.pending.specs.Laws.Each.{each-length}
 use Rattle.arrays.specs.Laws.HalvesCode.{halves-all, words-all}
 use borrow.Author.Needs.{needs}
 use Rattle.arrays.proofs.put_state.Statement.{statement}

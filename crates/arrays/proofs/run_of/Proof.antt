@@ -2,7 +2,7 @@ use mathlib.Core.Path.{refl}
 use Prim.Native.Nat.{_-_}
 use native.Mathlib.Omega.{arith}
 use Rattle.codec.specs.Limit.{maxTasks}
-use Rattle.replayer.specs.Laws.Each.{Filled, filled-none, filled-more, filled-all}
+use Rattle.pending.specs.Laws.Each.{Filled, filled-none, filled-more, filled-all}
 use Rattle.arrays.specs.Places.{taskIn}
 use borrow.Author.Needs.{needs}
 use Rattle.arrays.proofs.run_of.Statement.{statement}

@@ -12,8 +12,8 @@ use Rattle.tracker.specs.declared.Locality.the-variants.{WriteExclusive, ReadEx
 use Rattle.tracker.specs.declared.State.{State}
 use Rattle.tracker.specs.State.{holderOf, shareOf, owned}
 use Rattle.tracker.specs.Laws.State.{Shaped}
-use Rattle.replayer.specs.Each.{each}
-use Rattle.replayer.specs.Laws.Each.{each-length, each-at, each-of}
+use Rattle.pending.specs.Each.{each}
+use Rattle.pending.specs.Laws.Each.{each-length, each-at, each-of}
 use Rattle.arrays.specs.Halves.{recordOf, recordIn, entriesIn, stateIn, caseOf, localityAt, halvesOf, wordsOf}
 use Rattle.arrays.specs.Laws.Stores.{store-whole, behind}
 

@@ -8,7 +8,7 @@ use lib.ListN.{length, set, length-append}
 use Rattle.codec.specs.Store.{store}
 use Rattle.codec.specs.Laws.Store.{store-behind}
 use Rattle.codec.specs.Limit.{maxTasks, maxObjects}
-use Rattle.replayer.specs.Each.{each}
+use Rattle.pending.specs.Each.{each}
 use Rattle.arrays.specs.Halves.{movedTo}
 use Rattle.arrays.specs.Laws.Stores.{store-set, store-swap, store-more}
 

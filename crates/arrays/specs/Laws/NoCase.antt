@@ -13,7 +13,7 @@ use Rattle.codec.specs.Limit.{maxObjects}
 use Rattle.tracker.specs.Laws.Scan.{scan-bad}
 use Rattle.tracker.specs.Sound.{objectSound, soundOf}
 use Rattle.tracker.specs.State.{owned}
-use Rattle.replayer.specs.Laws.Each.{each-at}
+use Rattle.pending.specs.Laws.Each.{each-at}
 use Rattle.arrays.specs.Halves.{recordOf, recordIn, stateIn}
 
 without-meaning : (case task share : ℕ) → 2 < case → recordOf case task share ≡ record { locality = ReadShared 0 }

@@ -8,11 +8,11 @@ use lib.ListN.{length, getD, List·getD-append}
 use lib.Seq.{getD-append-add}
 use Rattle.codec.specs.Store.{store}
 use Rattle.codec.specs.Limit.{maxTasks}
-use Rattle.replayer.specs.declared.TaskRun.{TaskRun}
-use Rattle.replayer.specs.declared.Run.{Run}
-use Rattle.replayer.specs.Laws.Moved.{Shaped}
-use Rattle.replayer.specs.Run.{taskAt, blankTask}
-use Rattle.replayer.specs.Laws.Each.{each-of}
+use Rattle.pending.specs.declared.TaskRun.{TaskRun}
+use Rattle.pending.specs.declared.Run.{Run}
+use Rattle.pending.specs.Laws.Moved.{Shaped}
+use Rattle.pending.specs.Run.{taskAt, blankTask}
+use Rattle.pending.specs.Laws.Each.{each-of}
 use Rattle.arrays.specs.Places.{taskIn, runIn, taskPlaces, firstPlaces, placesOf}
 use Rattle.arrays.specs.Laws.PlacesCode.{places-length}
 use Rattle.arrays.specs.Laws.Stores.{store-whole, behind}

@@ -8,9 +8,9 @@ use lib.ListN.{length, set, length-append}
 use Rattle.codec.specs.Store.{store}
 use Rattle.codec.specs.Laws.Store.{store-behind}
 use Rattle.codec.specs.Limit.{maxTasks}
-use Rattle.replayer.specs.declared.TaskRun.{TaskRun}
-use Rattle.replayer.specs.declared.Run.{Run}
-use Rattle.replayer.specs.Run.{taskAt}
+use Rattle.pending.specs.declared.TaskRun.{TaskRun}
+use Rattle.pending.specs.declared.Run.{Run}
+use Rattle.pending.specs.Run.{taskAt}
 use Rattle.arrays.specs.Places.{taskPlaces, firstPlaces, placesOf}
 
 pub places-length : (runs : List TaskRun) (n : ℕ) → length (firstPlaces runs n) ≡ 4 * n

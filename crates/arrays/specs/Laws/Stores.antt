@@ -8,8 +8,8 @@ use lib.ListN.{length, getD, set, drop-of-length-le}
 use lib.Seq.{set-comm, getD-append-add}
 use Rattle.codec.specs.Store.{store}
 use Rattle.codec.specs.Laws.Store.{store-behind, store-split}
-use Rattle.replayer.specs.Each.{each}
-use Rattle.replayer.specs.Laws.Each.{each-length}
+use Rattle.pending.specs.Each.{each}
+use Rattle.pending.specs.Laws.Each.{each-length}
 
 -- an entry in front of a part that is stored
 pub store-set : (l : List ℕ) (i at v : ℕ) (xs : List ℕ) → i < at → set (store l at xs) i v ≡ store (set l i v) at xs

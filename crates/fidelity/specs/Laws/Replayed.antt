@@ -21,12 +21,12 @@ use Rattle.history.specs.Ready.{Ready}
 use Rattle.history.specs.Faithful.{after, Faithful}
 use Rattle.history.specs.Laws.Faithful.{faithful}
 use Rattle.replayer.specs.declared.Stepped.{Stepped}
-use Rattle.replayer.specs.Laws.All.{all-test}
+use Rattle.pending.specs.Laws.All.{all-test}
 use Rattle.playback.specs.Finish.{tasksIn, finishedOf}
 use Rattle.replayer.specs.OpenOf.{openOf}
 use Rattle.replayer.specs.Laws.ReadyOf.{ReadySet, ready-word}
 use Rattle.replayer.specs.ReadyOf.{isReady as isReadyBy, readyOf}
-use Rattle.replayer.specs.Run.{taskAt}
+use Rattle.pending.specs.Run.{taskAt}
 use Rattle.replayer.specs.Laws.StepOf.{refused-stays}
 use Rattle.replayer.specs.Word.{wordOf, hasBit}
 use Rattle.fidelity.specs.Bench.{Bench, benchOf, answerOf, stepped, steppedAll, takes as takesBy, tally as tallyBy, tallyOf as tallyOfBy, AllTaken as AllTakenBy}

@@ -17,13 +17,13 @@ use Rattle.recorder.specs.AccessOf.{accessOf, accessNumber, checked, accepted, 
 use Rattle.recorder.specs.OpenOf.{openOf, opened, openNumber, entriesOk}
 use Rattle.sections.specs.SectionOf.{sectionOf, sectionChecked, logChecked}
 use Rattle.recorder.specs.WholeRun.{outcome, called, calledAll, packed}
-use Rattle.replayer.specs.All.{allFrom}
-use Rattle.replayer.specs.Met.{allMet}
-use Rattle.replayer.specs.Next.{entryNext, judged as judged-replayer-next, nextOf as nextOf-replayer-next}
+use Rattle.pending.specs.All.{allFrom}
+use Rattle.pending.specs.Met.{allMet}
+use Rattle.pending.specs.Next.{entryNext, judged as judged-replayer-next, nextOf as nextOf-replayer-next}
 use Rattle.replayer.specs.OpenOf.{startsOf, onParse, openOf as openOf-replayer-openof}
 use Rattle.replayer.specs.ReadyOf.{isReady, readyOf}
-use Rattle.replayer.specs.Run.{movedOf}
-use Rattle.replayer.specs.Sound.{taskSound as taskSound-replayer-sound, soundOf as soundOf-replayer-sound}
+use Rattle.pending.specs.Run.{movedOf}
+use Rattle.pending.specs.Sound.{taskSound as taskSound-replayer-sound, soundOf as soundOf-replayer-sound}
 use Rattle.replayer.specs.StepOf.{earlyNumber, onNext, stepOf}
 use Rattle.replayer.specs.Word.{wordOf}
 use Rattle.tracker.specs.Class.{classOf}

@@ -13,15 +13,15 @@ use Rattle.history.specs.History.{History, count}
 use Rattle.history.specs.Laws.Access.{access-bound}
 use Rattle.history.specs.Replay.{State, next, allMet, isReady}
 use Rattle.history.specs.Laws.Ready.{next-access, next-none}
-use Rattle.replayer.specs.declared.TaskRun.{TaskRun}
+use Rattle.pending.specs.declared.TaskRun.{TaskRun}
 use Rattle.replayer.specs.Laws.Left.{Left, left-entry}
-use Rattle.replayer.specs.Met.{allMet as allMetBy}
-use Rattle.replayer.specs.Laws.Moved.{Shaped}
-use Rattle.replayer.specs.Next.{entryNext, nextOf}
-use Rattle.replayer.specs.Laws.Next.{open-met}
+use Rattle.pending.specs.Met.{allMet as allMetBy}
+use Rattle.pending.specs.Laws.Moved.{Shaped}
+use Rattle.pending.specs.Next.{entryNext, nextOf}
+use Rattle.pending.specs.Laws.Next.{open-met}
 use Rattle.replayer.specs.ReadyOf.{isReady as isReadyBy}
-use Rattle.replayer.specs.Run.{taskAt, doneOf}
-use Rattle.replayer.specs.Sound.{soundOf}
+use Rattle.pending.specs.Run.{taskAt, doneOf}
+use Rattle.pending.specs.Sound.{soundOf}
 use Rattle.fidelity.specs.Bench.{Bench}
 use Rattle.fidelity.specs.Filed.{filed}
 use Rattle.fidelity.specs.Laws.LeftOver.{leftOf, left-next}

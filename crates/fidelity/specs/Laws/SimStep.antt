@@ -23,12 +23,12 @@ use Rattle.history.specs.Access.{Access}
 use Rattle.history.specs.Replay.{State, isReady, oneMore, perform, shown, step, answer, takes}
 use Rattle.history.specs.Laws.Ready.{access-next}
 use Rattle.history.specs.Laws.Step.{Taken, Refused, taken, refused, step-goes}
-use Rattle.replayer.specs.declared.TaskRun.{TaskRun}
+use Rattle.pending.specs.declared.TaskRun.{TaskRun}
 use Rattle.replayer.specs.declared.Stepped.{Stepped}
 use Rattle.replayer.specs.Laws.Left.{Left, left-entry, left-own, left-other}
 use Rattle.replayer.specs.Memory.{performed, valueOf}
-use Rattle.replayer.specs.Laws.Moved.{moved-own, moved-other}
-use Rattle.replayer.specs.Run.{taskAt, doneOf, movedOf}
+use Rattle.pending.specs.Laws.Moved.{moved-own, moved-other}
+use Rattle.pending.specs.Run.{taskAt, doneOf, movedOf}
 use Rattle.replayer.specs.Laws.StepOf.{Taken as TakenBy, Turned, taken as takenBy, turned, step-goes as step-goes-by, step-keeps}
 use Rattle.fidelity.specs.Bench.{Bench, answerOf, stepped, takes as takesBy}
 use Rattle.fidelity.specs.Filed.{filed, filedOp}
@@ -95,7 +95,7 @@ module _ (h : History) (bytes : List ℕ) (tasks objects : ℕ) (holds : Holds h
     next-is = w .entry .next ∙ ap (λ (f : FileEntry). taskAt (b .run .runs) t .place + entryLength f) entry-is
 
     few : t < maxTasks
-    few = omega (arith, w .below, Rattle.replayer.specs.Laws.Sound.sound-facts (b .run) (length bytes) (i .sound) .few-tasks)
+    few = omega (arith, w .below, Rattle.pending.specs.Laws.Sound.sound-facts (b .run) (length bytes) (i .sound) .few-tasks)
 
     object-low : filedOp (e .act) .object < objects
     object-low = let o : op .object < objects = omega (arith, w .object, i .entries) in rw op-is at o

@@ -9,19 +9,19 @@ use native.Mathlib.Decide.{ℕ-discrete}
 use native.Mathlib.Omega.{arith}
 use lib.Seq.{getD-set-same, getD-set-other}
 use Rattle.codec.specs.Limit.{maxTasks}
-use Rattle.replayer.specs.declared.TaskRun.{TaskRun}
-use Rattle.replayer.specs.declared.Run.{Run}
+use Rattle.pending.specs.declared.TaskRun.{TaskRun}
+use Rattle.pending.specs.declared.Run.{Run}
 use Rattle.playback.specs.declared.columns.Columns.{Columns}
 use Rattle.playback.specs.Finish.{tasksIn, isDone, finishedOf}
-use Rattle.replayer.specs.All.{allFrom}
-use Rattle.replayer.specs.Dones.{donesOf}
-use Rattle.replayer.specs.Each.{each}
-use Rattle.replayer.specs.Run.{taskAt, blankTask, doneOf, limitsOf, movedOf}
+use Rattle.pending.specs.All.{allFrom}
+use Rattle.pending.specs.Dones.{donesOf}
+use Rattle.pending.specs.Each.{each}
+use Rattle.pending.specs.Run.{taskAt, blankTask, doneOf, limitsOf, movedOf}
 use Rattle.playback.specs.Laws.Finish.{tasks-few}
-use Rattle.replayer.specs.Laws.All.{all-same}
-use Rattle.replayer.specs.Laws.Each.{each-length, each-at, each-of}
-use Rattle.replayer.specs.Laws.Look.{OneTask}
-use Rattle.replayer.specs.Laws.Moved.{Shaped, moved-shaped, moved-own, moved-other}
+use Rattle.pending.specs.Laws.All.{all-same}
+use Rattle.pending.specs.Laws.Each.{each-length, each-at, each-of}
+use Rattle.pending.specs.Laws.Look.{OneTask}
+use Rattle.pending.specs.Laws.Moved.{Shaped, moved-shaped, moved-own, moved-other}
 
 -- the run that columns hold
 abbrev pub taskOf : List ℕ → List ℕ → List ℕ → List ℕ → ℕ → TaskRun

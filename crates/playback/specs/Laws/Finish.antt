@@ -11,14 +11,14 @@ use lib.ListN.{length}
 use borrow.Author.Tests.{eq-eqb, ne-eqb}
 use Rattle.codec.specs.Laws.Decide.{never}
 use Rattle.codec.specs.Limit.{maxTasks}
-use Rattle.replayer.specs.declared.Run.{Run}
+use Rattle.pending.specs.declared.Run.{Run}
 use Rattle.playback.specs.Finish.{Play, wordAt, taskNext, onward, playedOf, leftIn, leftOver, finishOf, tasksIn}
-use Rattle.replayer.specs.Laws.Moved.{Shaped, moved-own, moved-other, moved-tasks}
+use Rattle.pending.specs.Laws.Moved.{Shaped, moved-own, moved-other, moved-tasks}
 use Rattle.replayer.specs.Laws.ReadyOf.{ready, nowhere, ready-word}
 use Rattle.replayer.specs.ReadyOf.{isReady, readyOf}
-use Rattle.replayer.specs.Run.{taskAt, movedOf}
-use Rattle.replayer.specs.Sound.{soundOf}
-use Rattle.replayer.specs.Laws.Sound.{sound-facts}
+use Rattle.pending.specs.Run.{taskAt, movedOf}
+use Rattle.pending.specs.Sound.{soundOf}
+use Rattle.pending.specs.Laws.Sound.{sound-facts}
 use Rattle.replayer.specs.Laws.StepOf.{taken, turned, step-goes, step-keeps}
 use Rattle.replayer.specs.Word.{wordOf}
 

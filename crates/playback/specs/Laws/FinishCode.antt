@@ -6,14 +6,14 @@ use Prim.Native.Nat.{ℕ, _+_}
 use native.Mathlib.Omega.{arith}
 use lib.ListN.{length}
 use Rattle.codec.specs.declared.Op.{Op}
-use Rattle.replayer.specs.declared.Run.{Run}
-use Rattle.replayer.specs.declared.next.Next.the-variants.{Open}
+use Rattle.pending.specs.declared.Run.{Run}
+use Rattle.pending.specs.declared.next.Next.the-variants.{Open}
 use Rattle.playback.specs.Finish.{Play, onward, leftOver, finishOf, finishedOf, shownPlay}
 use Rattle.playback.specs.Laws.Finish.{Playing, Onward, goes-onward, finish-on, finish-end}
 use Rattle.playback.specs.Laws.Lowest.{IsNext}
 use Rattle.replayer.specs.Memory.{performed}
 use Rattle.replayer.specs.ReadyOf.{readyOf}
-use Rattle.replayer.specs.Run.{movedOf}
+use Rattle.pending.specs.Run.{movedOf}
 use Rattle.replayer.specs.StepOf.{onNext, stepOf}
 use Rattle.replayer.specs.Laws.StepCode.{clear-early-number, step-next}
 

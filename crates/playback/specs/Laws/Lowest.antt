@@ -8,12 +8,12 @@ use native.Mathlib.Omega.{arith}
 use native.Mathlib.Decide.{decLt}
 use lib.ListN.{length}
 use borrow.Author.Tests.{ltb-true, eq-eqb, ne-eqb}
-use Rattle.replayer.specs.declared.Run.{Run}
+use Rattle.pending.specs.declared.Run.{Run}
 use Rattle.playback.specs.declared.lowest.NextStep.{NextStep}
 use Rattle.playback.specs.declared.lowest.NextStep.the-variants.{Ready, Stopped}
-use Rattle.replayer.specs.declared.next.Next.{Next}
-use Rattle.replayer.specs.declared.next.Next.the-variants.{Open, Held, Refused}
-use Rattle.replayer.specs.Next.{nextOf, isOpen}
+use Rattle.pending.specs.declared.next.Next.{Next}
+use Rattle.pending.specs.declared.next.Next.the-variants.{Open, Held, Refused}
+use Rattle.pending.specs.Next.{nextOf, isOpen}
 use Rattle.replayer.specs.ReadyOf.{readyOf, hasLeft, isReady}
 use Rattle.playback.specs.Schedule.{nextTask, behindOf}
 use Rattle.codec.specs.Laws.Decide.{both-pass, never}
@@ -21,12 +21,12 @@ use Rattle.codec.specs.declared.Op.{Op}
 use Rattle.codec.specs.Limit.{maxTasks}
 use Rattle.playback.specs.Finish.{leftOver}
 use Rattle.playback.specs.Laws.Finish.{left-less, ready-word-zero}
-use Rattle.replayer.specs.Laws.Moved.{Shaped, moved-tasks, moved-sound}
-use Rattle.replayer.specs.Laws.Next.{next-within}
+use Rattle.pending.specs.Laws.Moved.{Shaped, moved-tasks, moved-sound}
+use Rattle.pending.specs.Laws.Next.{next-within}
 use Rattle.replayer.specs.Laws.ReadyOf.{LowestIs, ready, nowhere, ready-word}
-use Rattle.replayer.specs.Run.{taskAt, movedOf}
-use Rattle.replayer.specs.Sound.{soundOf}
-use Rattle.replayer.specs.Laws.Sound.{sound-facts, sound-test}
+use Rattle.pending.specs.Run.{taskAt, movedOf}
+use Rattle.pending.specs.Sound.{soundOf}
+use Rattle.pending.specs.Laws.Sound.{sound-facts, sound-test}
 use Rattle.playback.specs.Laws.Visit.{Noted, noted-onward}
 use Rattle.replayer.specs.Word.{hasBit, lowestIn, lowestReady}
 

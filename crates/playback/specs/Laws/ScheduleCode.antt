@@ -9,14 +9,14 @@ use Rattle.codec.specs.declared.Op.{Op}
 use Rattle.codec.specs.Store.{store}
 use Rattle.codec.specs.Laws.Store.{store-none, store-cons}
 use Rattle.replayer.specs.declared.ReadyWord.{ReadyWord}
-use Rattle.replayer.specs.declared.Run.{Run}
+use Rattle.pending.specs.declared.Run.{Run}
 use Rattle.playback.specs.Laws.Lowest.{IsNext}
 use Rattle.replayer.specs.Laws.ReadyOf.{ready-unsound}
 use Rattle.replayer.specs.ReadyOf.{readyOf}
-use Rattle.replayer.specs.Run.{movedOf}
+use Rattle.pending.specs.Run.{movedOf}
 use Rattle.playback.specs.Schedule.{scheduleFrom}
 use Rattle.playback.specs.Laws.Schedule.{schedule-stops, schedule-goes}
-use Rattle.replayer.specs.Sound.{soundOf}
+use Rattle.pending.specs.Sound.{soundOf}
 
 -- a buffer and the run after n steps, against those at first
 pub record Writing (b : List ℕ) (out₀ : List ℕ) (r₀ : Run) (out : List ℕ) (r : Run) (n : ℕ) : Type 0 where

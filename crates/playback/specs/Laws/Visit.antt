@@ -13,21 +13,21 @@ use Rattle.codec.specs.declared.Op.{Op}
 use Rattle.codec.specs.Laws.Zeros.{zeros-at}
 use Rattle.codec.specs.Limit.{maxTasks}
 use Rattle.reader.specs.declared.Limits.{Limits}
-use Rattle.replayer.specs.declared.Run.{Run}
-use Rattle.replayer.specs.declared.TaskRun.{TaskRun}
-use Rattle.replayer.specs.declared.next.Next.{Next}
-use Rattle.replayer.specs.declared.next.Next.the-variants.{Open, Held}
-use Rattle.replayer.specs.Dones.{donesOf}
-use Rattle.replayer.specs.Laws.Dones.{dones-at}
-use Rattle.replayer.specs.Look.{groupAt, Looks}
-use Rattle.replayer.specs.Laws.Look.{OneTask, look-next}
-use Rattle.replayer.specs.Laws.Moved.{Shaped, moved-own, moved-other, moved-tasks, moved-objects}
-use Rattle.replayer.specs.Next.{entryNext, nextOf, isOpen}
-use Rattle.replayer.specs.Laws.Next.{judged-open, next-entry}
-use Rattle.replayer.specs.FirstUnmet.{Ahead}
-use Rattle.replayer.specs.Laws.FirstUnmet.{done-all, ahead-later}
+use Rattle.pending.specs.declared.Run.{Run}
+use Rattle.pending.specs.declared.TaskRun.{TaskRun}
+use Rattle.pending.specs.declared.next.Next.{Next}
+use Rattle.pending.specs.declared.next.Next.the-variants.{Open, Held}
+use Rattle.pending.specs.Dones.{donesOf}
+use Rattle.pending.specs.Laws.Dones.{dones-at}
+use Rattle.pending.specs.Look.{groupAt, Looks}
+use Rattle.pending.specs.Laws.Look.{OneTask, look-next}
+use Rattle.pending.specs.Laws.Moved.{Shaped, moved-own, moved-other, moved-tasks, moved-objects}
+use Rattle.pending.specs.Next.{entryNext, nextOf, isOpen}
+use Rattle.pending.specs.Laws.Next.{judged-open, next-entry}
+use Rattle.pending.specs.FirstUnmet.{Ahead}
+use Rattle.pending.specs.Laws.FirstUnmet.{done-all, ahead-later}
 use Rattle.replayer.specs.ReadyOf.{isReady}
-use Rattle.replayer.specs.Run.{taskAt, limitsOf, movedOf}
+use Rattle.pending.specs.Run.{taskAt, limitsOf, movedOf}
 
 -- the access's record stands at `at`, and the entry's orderings before `scan` are met; a note of a record that is passed says nothing
 abbrev pub Note : Limits → List ℕ → List ℕ → TaskRun → ℕ → ℕ → Type 0

@@ -19,11 +19,11 @@ use Rattle.reader.specs.Part.{part}
 use Rattle.reader.specs.Laws.Part.{part-drop}
 use Rattle.reader.specs.Reading.{Reading, refused, read, stop, mapped, andThen}
 use Rattle.reader.specs.Recording.{Entry}
-use Rattle.replayer.specs.declared.TaskRun.{TaskRun}
-use Rattle.replayer.specs.declared.Run.{Run}
-use Rattle.replayer.specs.Run.{taskAt, limitsOf, advanced, movedOf}
-use Rattle.replayer.specs.Next.{entryNext}
-use Rattle.replayer.specs.Laws.Moved.{Shaped, moved-own, moved-other}
+use Rattle.pending.specs.declared.TaskRun.{TaskRun}
+use Rattle.pending.specs.declared.Run.{Run}
+use Rattle.pending.specs.Run.{taskAt, limitsOf, advanced, movedOf}
+use Rattle.pending.specs.Next.{entryNext}
+use Rattle.pending.specs.Laws.Moved.{Shaped, moved-own, moved-other}
 use Rattle.replayer.specs.OpenOf.{startOf, openedRun}
 use Rattle.replayer.specs.Laws.OpenOf.{opened-stands}
 

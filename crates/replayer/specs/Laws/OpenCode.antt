@@ -20,7 +20,7 @@ use Rattle.reader.specs.Starting.{startingIn}
 use Rattle.reader.specs.Laws.Starting.{starting-there}
 use Rattle.codec.specs.Number.{entries as wrongLength}
 use Rattle.codec.specs.Limit.{maxTasks}
-use Rattle.replayer.specs.Run.{blankTasks}
+use Rattle.pending.specs.Run.{blankTasks}
 use Rattle.replayer.specs.Laws.OpenOf.{starts-length}
 use Rattle.replayer.specs.OpenOf.{startOf, startsOf, begunOf, refusedOpen, onParse, openOf}
 

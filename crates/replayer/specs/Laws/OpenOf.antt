@@ -18,13 +18,13 @@ use Rattle.reader.specs.Parse.{Parsed, parse}
 use Rattle.reader.specs.Laws.Positive.{parse-positive}
 use Rattle.reader.specs.Reading.{Reading, refused, read}
 use Rattle.reader.specs.Laws.Standing.{Standing, parse-stands}
-use Rattle.replayer.specs.declared.TaskRun.{TaskRun}
+use Rattle.pending.specs.declared.TaskRun.{TaskRun}
 use Rattle.codec.specs.Number.{entries as wrongLength}
 use Rattle.codec.specs.Limit.{maxTasks}
-use Rattle.replayer.specs.Run.{blankTask, blankTasks, taskAt, doneOf}
-use Rattle.replayer.specs.Sound.{soundOf}
-use Rattle.replayer.specs.Laws.Sound.{sound-test}
-use Rattle.replayer.specs.Laws.Moved.{Shaped}
+use Rattle.pending.specs.Run.{blankTask, blankTasks, taskAt, doneOf}
+use Rattle.pending.specs.Sound.{soundOf}
+use Rattle.pending.specs.Laws.Sound.{sound-test}
+use Rattle.pending.specs.Laws.Moved.{Shaped}
 use Rattle.replayer.specs.OpenOf.{startOf, startsOf, openedRun, onParse, openOf}
 
 pub starts-length : (spans : List Span) (n : ℕ) → length (startsOf spans n) ≡ maxTasks

@@ -7,11 +7,11 @@ use native.Mathlib.Nat.{add-zero}
 use native.Mathlib.Omega.{arith}
 use lib.ListN.{length}
 use Rattle.codec.specs.Laws.Decide.{passes, fails, split}
-use Rattle.replayer.specs.declared.Run.{Run}
+use Rattle.pending.specs.declared.Run.{Run}
 use Rattle.codec.specs.Number.{unsound}
 use Rattle.codec.specs.Limit.{maxTasks}
-use Rattle.replayer.specs.Sound.{soundOf}
-use Rattle.replayer.specs.Laws.Sound.{sound-facts}
+use Rattle.pending.specs.Sound.{soundOf}
+use Rattle.pending.specs.Laws.Sound.{sound-facts}
 use Rattle.replayer.specs.ReadyOf.{isReady, readyOf}
 use Rattle.replayer.specs.Word.{wordOf, hasBit, countOf, lowestIn, readyCount, lowestReady}
 use Rattle.replayer.specs.Laws.Word.{word-bit, word-above, word-count, word-lowest}

@@ -5,8 +5,8 @@ use lib.ListN.{length}
 use denote.Ref.{now}
 use borrow.Author.Needs.{needs}
 use borrow.Author.Tests.{eq-eqb, ne-eqb}
-use Rattle.replayer.specs.All.{allFrom}
-use Rattle.replayer.specs.Laws.All.{all-on, all-off, all-end}
+use Rattle.pending.specs.All.{allFrom}
+use Rattle.pending.specs.Laws.All.{all-on, all-off, all-end}
 use Rattle.playback.specs.Alike.{sameAt, sameEntries}
 use Rattle.playback.proofs.alike.same_entries.Statement.{statement}
 use Rattle.playback.proofs.alike.same_entries.Tie as tie

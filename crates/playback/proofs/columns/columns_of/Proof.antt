@@ -2,8 +2,8 @@ use mathlib.Core.Path.{refl}
 use Prim.Native.Nat.{_-_}
 use Rattle.codec.specs.Limit.{maxTasks}
 use Rattle.playback.specs.Laws.Columns.{placeOf, endOf, countOf}
-use Rattle.replayer.specs.Laws.Each.{Filled, filled-none, filled-more, filled-all}
-use Rattle.replayer.specs.Run.{doneOf}
+use Rattle.pending.specs.Laws.Each.{Filled, filled-none, filled-more, filled-all}
+use Rattle.pending.specs.Run.{doneOf}
 use borrow.Author.Needs.{needs}
 use Rattle.playback.proofs.columns.columns_of.Statement.{statement}
 use Rattle.playback.proofs.columns.columns_of.Tie as tie

@@ -5,8 +5,8 @@ use denote.Ref.{now}
 use borrow.Author.Needs.{needs}
 use borrow.Author.Tests.{lt-ltb, le-ltb}
 use Rattle.codec.specs.Limit.{maxTasks}
-use Rattle.replayer.specs.All.{allFrom}
-use Rattle.replayer.specs.Laws.All.{all-on, all-off, all-end}
+use Rattle.pending.specs.All.{allFrom}
+use Rattle.pending.specs.Laws.All.{all-on, all-off, all-end}
 use Rattle.playback.specs.Laws.Columns.{doneBy, allDoneOf}
 use Rattle.playback.specs.Finish.{tasksIn}
 use Rattle.playback.specs.Laws.Finish.{tasks-few}

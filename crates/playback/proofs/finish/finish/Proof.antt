@@ -3,7 +3,7 @@ use native.Mathlib.Omega.{arith}
 use Prim.Native.Nat.{_+_}
 use lib.ListN.{length}
 use denote.Ref.{now}
-use Rattle.replayer.specs.declared.Run.{Run}
+use Rattle.pending.specs.declared.Run.{Run}
 use Rattle.playback.specs.Laws.Columns.{runOf}
 use Rattle.playback.specs.Laws.Columns.{columns-back, columns-finished}
 use Rattle.playback.specs.Laws.ColumnsCode.{Columned, columned-none}

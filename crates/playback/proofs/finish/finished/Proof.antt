@@ -2,7 +2,7 @@ use mathlib.Core.Path.{sym, _∙_}
 use lib.ListN.{length-map}
 use borrow.Author.Needs.{needs}
 use borrow.Author.Tests.{not-true, not-false}
-use Rattle.replayer.specs.Laws.Moved.{Shaped}
+use Rattle.pending.specs.Laws.Moved.{Shaped}
 use Rattle.playback.specs.Laws.Columns.{columns-told}
 use Rattle.playback.specs.Finish.{finishedCall}
 use Rattle.playback.proofs.finish.finished.Statement.{statement}

@@ -5,12 +5,12 @@ use native.Mathlib.Omega.{arith}
 use lib.ListN.{length}
 use denote.Ref.{now}
 use Rattle.codec.specs.Limit.{maxTasks}
-use Rattle.replayer.specs.declared.Run.{Run}
+use Rattle.pending.specs.declared.Run.{Run}
 use Rattle.replayer.proofs.Else.{closed-next}
-use Rattle.replayer.specs.Laws.Look.{OneTask}
+use Rattle.pending.specs.Laws.Look.{OneTask}
 use Rattle.replayer.specs.ReadyOf.{isReady}
-use Rattle.replayer.specs.Run.{limitsOf}
-use Rattle.replayer.specs.Laws.Sound.{Sound, sound-facts}
+use Rattle.pending.specs.Run.{limitsOf}
+use Rattle.pending.specs.Laws.Sound.{Sound, sound-facts}
 use Rattle.playback.specs.Laws.Columns.{taskOf, runOf}
 use Rattle.playback.specs.Laws.Columns.{columns-task, columns-one}
 use Rattle.playback.specs.Laws.ColumnsCode.{Columned, columned-noted, columned-moved, columned-on}

@@ -4,8 +4,8 @@ use Prim.Native.Nat.{_-_}
 use lib.ListN.{length, length-set, length-map}
 use denote.Ref.{now}
 use borrow.Author.Tests.{not-true, not-false}
-use Rattle.replayer.specs.declared.Run.{Run}
-use Rattle.replayer.specs.Laws.Moved.{Shaped}
+use Rattle.pending.specs.declared.Run.{Run}
+use Rattle.pending.specs.Laws.Moved.{Shaped}
 use Rattle.playback.specs.Laws.Columns.{runOf}
 use Rattle.playback.specs.Laws.Columns.{columns-back}
 use Rattle.playback.specs.Laws.ColumnsCode.{Columned, columned-none}

@@ -1,7 +1,7 @@
 use denote.Ref.{now}
 use lib.ListN.{getD}
-use Rattle.replayer.specs.FirstUnmet.{Reached}
-use Rattle.replayer.specs.Laws.FirstUnmet.{ahead-rest}
+use Rattle.pending.specs.FirstUnmet.{Reached}
+use Rattle.pending.specs.Laws.FirstUnmet.{ahead-rest}
 use Rattle.playback.specs.Laws.Visit.{visit-none, visit-looks, noted-set, noted-scan}
 use borrow.Author.Needs.{needs}
 use Rattle.playback.proofs.visit.visit.Statement.{statement}

@@ -45,11 +45,11 @@ use denote.Exit.{yes}
 use Rattle.codec.specs.Limit.{maxTasks}
 use Rattle.replayer.specs.StepOf.{StepOutcome, stepOf}
 use Rattle.replayer.specs.InPlace.{shownOf}
-use Rattle.replayer.specs.declared.Run.{Run}
+use Rattle.pending.specs.declared.Run.{Run}
 use Rattle.replayer.specs.declared.Stepped.{Stepped}
 use Rattle.replayer.specs.declared.in_place.Step.{Step}
-use Rattle.replayer.proofs.Run as T
-use Rattle.replayer.proofs.Run.Laws as T′
+use Rattle.pending.proofs.Run as T
+use Rattle.pending.proofs.Run.Laws as T′
 use Rattle.replayer.proofs.Stepped as S
 use Rattle.replayer.proofs.Stepped.Laws as S′
 use Rattle.replayer.proofs.in_place.Step as P

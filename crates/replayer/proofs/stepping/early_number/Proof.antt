@@ -6,9 +6,9 @@ use borrow.Author.Tests.{lt-ltb, le-ltb, eq-eqb, ne-eqb, not-true, not-false}
 use mathlib.Core.Bool.{true}
 use lib.Dec.{eqb, ltb}
 use Rattle.codec.specs.Limit.{maxTasks}
-use Rattle.replayer.specs.Sound.{soundOf}
-use Rattle.replayer.specs.Laws.Sound.{sound-facts}
-use Rattle.replayer.specs.Run.{taskAt}
+use Rattle.pending.specs.Sound.{soundOf}
+use Rattle.pending.specs.Laws.Sound.{sound-facts}
+use Rattle.pending.specs.Run.{taskAt}
 use Rattle.replayer.specs.StepOf.{earlyNumber}
 use Rattle.replayer.proofs.stepping.early_number.Statement.{statement}
 use Rattle.replayer.proofs.stepping.early_number.Tie as tie

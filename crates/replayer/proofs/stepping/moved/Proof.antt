@@ -1,6 +1,6 @@
 use mathlib.Core.Path.{refl}
 use borrow.Author.Needs.{needs}
-use Rattle.replayer.specs.Run.{movedOf}
+use Rattle.pending.specs.Run.{movedOf}
 use Rattle.replayer.proofs.stepping.moved.Statement.{statement}
 use Rattle.replayer.proofs.stepping.moved.Tie as tie
 

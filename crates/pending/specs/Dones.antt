@@ -1,0 +1,10 @@
+-- The counts done of a run's 16 tasks as one list of numbers, which is what the orderings are held to.
+use mathlib.Core.List.{List}
+use Prim.Native.Nat.{ℕ}
+use Rattle.codec.specs.Limit.{maxTasks}
+use Rattle.pending.specs.declared.TaskRun.{TaskRun}
+use Rattle.pending.specs.Each.{each}
+use Rattle.pending.specs.Run.{doneOf}
+
+abbrev pub donesOf : List TaskRun → List ℕ
+donesOf runs = each (doneOf runs) maxTasks

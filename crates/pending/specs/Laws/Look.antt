@@ -1,0 +1,23 @@
+-- Laws of `Look`.
+use mathlib.Core.Path.{_≡_}
+use mathlib.Core.List.{List}
+use Prim.Native.Nat.{ℕ}
+use Rattle.reader.specs.declared.Limits.{Limits}
+use Rattle.pending.specs.declared.Run.{Run}
+use Rattle.pending.specs.declared.TaskRun.{TaskRun}
+use Rattle.pending.specs.declared.next.Next.{Next}
+use Rattle.pending.specs.Dones.{donesOf}
+use Rattle.pending.specs.Next.{entryNext, nextOf}
+use Rattle.pending.specs.Run.{taskAt, limitsOf}
+use Rattle.pending.specs.Look.{groupAt, Looks}
+
+-- what the code has of a run where it looks at a task: the task's record, T, N and the counts done
+pub record OneTask (r : Run) (t : ℕ) (x : TaskRun) (m : Limits) (dones : List ℕ) : Type 0 where
+  pub task : x ≡ taskAt (r .runs) t
+  pub limits : m ≡ limitsOf r t
+  pub counts : donesOf (r .runs) ≡ dones
+
+pub look-next : (r : Run) (b : List ℕ) (t : ℕ) (x : TaskRun) (m : Limits) (dones : List ℕ) → OneTask r t x m dones → (n : Next)
+    → Looks dones (x .place) (groupAt m b (x .place) (x .end)) n → n ≡ nextOf r b t
+unfolding nextOf entryNext
+look-next r b t x m dones w n k = rw (w .task, w .limits) at (k (r .runs) (w .counts))

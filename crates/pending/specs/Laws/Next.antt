@@ -1,0 +1,104 @@
+-- What an access that may be done tells: it was read from the task's place, its object is below N, it ends within the body.
+use mathlib.Core.Path.{_≡_, refl}
+use mathlib.Core.Bool.{Bool, true, false, cond}
+use mathlib.Core.List.{List}
+use Prim.Native.Nat.{ℕ, _+_, _≤_, _<_}
+use native.Mathlib.Omega.{arith}
+use lib.ListN.{length}
+use Rattle.reader.specs.declared.Checked.{Checked}
+use Rattle.reader.specs.declared.entry.Found.{Found}
+use Rattle.reader.specs.declared.entry.Found.the-variants.{Access as FoundAccess, Refused as FoundRefused}
+use Rattle.reader.specs.Reading.{stop, Reading, refused, read}
+use Rattle.codec.specs.declared.Op.{Op}
+use Rattle.codec.specs.Laws.Decide.{passes, fails, split}
+use Rattle.codec.specs.Kind.{isAccess}
+use Rattle.codec.specs.Number.{inBody}
+use Rattle.reader.specs.Bytes.{entryLength}
+use Rattle.reader.specs.Laws.Bytes.{entry-long}
+use Rattle.reader.specs.Laws.Entry.{entry-access}
+use Rattle.reader.specs.Laws.EntryCase.{Entered, entry-entered}
+use Rattle.reader.specs.Part.{part}
+use Rattle.reader.specs.Laws.Part.{part-length}
+use Rattle.reader.specs.Laws.Positive.{entry-positive}
+use Rattle.reader.specs.Laws.Reading.{Positive}
+use Rattle.reader.specs.Recording.{Entry}
+use Rattle.pending.specs.declared.TaskRun.{TaskRun}
+use Rattle.pending.specs.declared.Run.{Run}
+use Rattle.pending.specs.declared.next.Next.the-variants.{Open, Held, Refused}
+use Rattle.pending.specs.Run.{taskAt, limitsOf}
+use Rattle.pending.specs.Met.{allMet}
+use Rattle.pending.specs.Next.{entryNext, judged, nextOf, isOpen}
+
+-- the reader's number and offset
+abbrev pub refusalOf : Found → Checked
+refusalOf (FoundAccess o a n) = stop 0 0
+refusalOf (FoundRefused c) = c
+
+-- the entry that an open access is
+pub record OpenEntry (runs : List TaskRun) (at : ℕ) (x : Reading Entry) (o : Op) (n : ℕ) : Type 0 where
+  pub entry : Entry
+  pub reads : x ≡ read entry
+  pub met : allMet runs (entry .orderings) ≡ true
+  pub op : o ≡ entry .op
+  pub next : n ≡ at + entryLength entry
+
+pub judged-open : (runs : List TaskRun) (at : ℕ) (x : Reading Entry) (o : Op) (n : ℕ) → judged runs at x ≡ Open o n → OpenEntry runs at x o n
+unfolding judged
+judged-open runs at (refused c) o n h = absurd (let z : _≡_ {A = ℕ} 0 1 = cc in omega arith)
+judged-open runs at (read e) o n h = elim (split (allMet runs (e .orderings))) [
+  | passes p ↦
+      let y : Open (e .op) (at + entryLength e) ≡ Open o n = rw p at h in
+      record { entry = e; reads = refl; met = p; op = cc; next = cc }
+  | fails p ↦ absurd (let y : Held ≡ Open o n = rw p at h in let z : _≡_ {A = ℕ} 0 1 = cc in omega arith)
+]
+
+judged-refused : (runs : List TaskRun) (at : ℕ) (x : Reading Entry) (c : Checked) → Positive x → judged runs at x ≡ Refused c → 0 < c .number
+unfolding judged
+judged-refused runs at (refused d) c p h = let e : d ≡ c = cc in rw (← e) p
+judged-refused runs at (read e) c p h = elim (split (allMet runs (e .orderings))) [
+  | passes q ↦ absurd (let y : Open (e .op) (at + entryLength e) ≡ Refused c = rw q at h in let z : _≡_ {A = ℕ} 0 1 = cc in omega arith)
+  | fails q ↦ absurd (let y : Held ≡ Refused c = rw q at h in let z : _≡_ {A = ℕ} 0 1 = cc in omega arith)
+]
+
+module _ (r : Run) (b : List ℕ) (t : ℕ) where
+  pub next-entry : (o : Op) (n : ℕ) → nextOf r b t ≡ Open o n → OpenEntry (r .runs) (taskAt (r .runs) t .place) (entryNext r b t) o n
+  unfolding nextOf
+  next-entry o n h = judged-open (r .runs) (taskAt (r .runs) t .place) (entryNext r b t) o n h
+
+  entered : (o : Op) (n : ℕ) (h : nextOf r b t ≡ Open o n)
+      → Entered (limitsOf r t) (part (taskAt (r .runs) t .place) (taskAt (r .runs) t .end) b) (next-entry o n h .entry)
+  unfolding entryNext
+  entered o n h = entry-entered (limitsOf r t) (stop inBody (taskAt (r .runs) t .place)) (taskAt (r .runs) t .place)
+      (part (taskAt (r .runs) t .place) (taskAt (r .runs) t .end) b) (next-entry o n h .entry) (next-entry o n h .reads)
+
+  access : (o : Op) (n : ℕ) (h : nextOf r b t ≡ Open o n) → isAccess (next-entry o n h .entry .op .kind) ≡ true
+  unfolding entryNext
+  access o n h = entry-access (limitsOf r t) (stop inBody (taskAt (r .runs) t .place)) (taskAt (r .runs) t .place)
+      (part (taskAt (r .runs) t .place) (taskAt (r .runs) t .end) b) (next-entry o n h .entry) (next-entry o n h .reads)
+
+  pub next-below : (o : Op) (n : ℕ) → nextOf r b t ≡ Open o n → o .object < r .objects
+  next-below o n h = rw (next-entry o n h .op) (entered o n h .below)
+
+  pub next-within : (o : Op) (n : ℕ) → nextOf r b t ≡ Open o n → taskAt (r .runs) t .end ≤ length b → (taskAt (r .runs) t .place < n) × (n ≤ taskAt (r .runs) t .end)
+  next-within o n h k =
+      let w = next-entry o n h in
+      let l = part-length (taskAt (r .runs) t .place) (taskAt (r .runs) t .end) b k in
+      let g = entered o n h .within in
+      let s = entry-long (w .entry) (access o n h) in
+      let e = w .next in
+      (omega arith, omega arith)
+
+  -- a refusal's number is never 0
+  pub next-positive : (c : Checked) → nextOf r b t ≡ Refused c → 0 < c .number
+  unfolding nextOf entryNext
+  next-positive c h = judged-refused (r .runs) (taskAt (r .runs) t .place) (entryNext r b t) c
+      (entry-positive (limitsOf r t) (stop inBody (taskAt (r .runs) t .place)) (taskAt (r .runs) t .place) (part (taskAt (r .runs) t .place) (taskAt (r .runs) t .end) b) (omega arith)) h
+
+-- an entry that is read is open exactly if its orderings are met
+pub open-met : (runs : List TaskRun) (at : ℕ) (x : Reading Entry) (e : Entry) → x ≡ read e → isOpen (judged runs at x) ≡ allMet runs (e .orderings)
+unfolding judged
+open-met runs at x e p = rw p (cases (allMet runs (e .orderings)))
+  where
+    cases : (b : Bool) → isOpen (cond b (Open (e .op) (at + entryLength e)) Held) ≡ b
+    cases true = refl
+    cases false = refl

@@ -1,0 +1,10 @@
+pub mod All
+pub mod Dones
+pub mod Each
+pub mod FirstUnmet
+pub mod Look
+pub mod Met
+pub mod Next
+pub mod Run
+pub mod Sound
+pub mod Laws

@@ -1,0 +1,22 @@
+-- What looking at a task's next group tells: what stands next, by the counts done.
+use mathlib.Core.Path.{_≡_}
+use mathlib.Core.List.{List}
+use Prim.Native.Nat.{ℕ}
+use Rattle.codec.specs.Number.{inBody}
+use Rattle.reader.specs.declared.Limits.{Limits}
+use Rattle.reader.specs.Entry.{entryAt}
+use Rattle.reader.specs.Part.{part}
+use Rattle.reader.specs.Reading.{Reading, stop}
+use Rattle.reader.specs.Recording.{Entry}
+use Rattle.pending.specs.declared.TaskRun.{TaskRun}
+use Rattle.pending.specs.declared.next.Next.{Next}
+use Rattle.pending.specs.Dones.{donesOf}
+use Rattle.pending.specs.Next.{judged}
+
+-- the group that is read from a place up to a body's end
+abbrev pub groupAt : Limits → List ℕ → ℕ → ℕ → Reading Entry
+groupAt m b place end = entryAt m (stop inBody place) place (part place end b)
+
+-- a group that starts at a place, looked at with the counts done
+abbrev pub Looks : List ℕ → ℕ → Reading Entry → Next → Type 0
+Looks dones from x n = (runs : List TaskRun) → donesOf runs ≡ dones → n ≡ judged runs from x
