@@ -12,7 +12,8 @@ use Rattle.codec.specs.Number.{entries as wrongLength}
 use Rattle.playback.specs.declared.alike.Compared.{Compared}
 use Rattle.playback.specs.declared.finish.Played.{Played}
 use Rattle.pending.specs.All.{allFrom}
-use Rattle.playback.specs.Finish.{Play, shownPlay}
+use Rattle.scheduler.specs.Finish.{Play}
+use Rattle.playback.specs.Shown.{shownPlay}
 use Rattle.playback.specs.ToEnd.{playOf}
 
 -- the answer, and the memories after the call

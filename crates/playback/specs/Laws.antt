@@ -1,10 +1,3 @@
 pub mod AlikeCode
-pub mod Columns
-pub mod ColumnsCode
-pub mod Finish
 pub mod FinishCode
-pub mod Lowest
-pub mod Schedule
-pub mod ScheduleCode
 pub mod ToEndCode
-pub mod Visit

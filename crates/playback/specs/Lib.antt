@@ -1,5 +1,4 @@
 pub mod Alike
-pub mod Finish
-pub mod Schedule
+pub mod Shown
 pub mod ToEnd
 pub mod Laws

@@ -5,7 +5,7 @@ use mathlib.Core.List.{List}
 use Prim.Native.Nat.{ℕ}
 use lib.Dec.{eqb}
 use Rattle.playback.specs.declared.to_end.Replayed.{Replayed}
-use Rattle.playback.specs.Finish.{Play, finishOf, finishedOf}
+use Rattle.scheduler.specs.Finish.{Play, finishOf, finishedOf}
 use Rattle.replayer.specs.OpenOf.{openOf}
 
 -- a recording played from its opening

@@ -1,12 +1,13 @@
 // A run played on, the lowest ready task first, until no task is ready; and whether a run has finished.
 ghost use mathlib.Core.Path.{_≡_};
 ghost use Prim.Native.Nat.{_<_};
-ghost use Rattle.playback.specs.Laws.Columns.{allDoneOf};
-ghost use Rattle.playback.specs.Finish.{leftOver, finishOf, shownPlay, finishedCall};
-ghost use Rattle.playback.specs.Laws.Finish.{Playing};
-use crate::columns::columns_of;
-use crate::lowest::NextStep;
-use crate::lowest::lowest;
+ghost use Rattle.scheduler.specs.Laws.Columns.{allDoneOf};
+ghost use Rattle.scheduler.specs.Finish.{leftOver, finishOf};
+ghost use Rattle.playback.specs.Shown.{shownPlay, finishedCall};
+ghost use Rattle.scheduler.specs.Laws.Finish.{Playing};
+use scheduler::columns::columns_of;
+use scheduler::lowest::NextStep;
+use scheduler::lowest::lowest;
 use codec::limit::TASKS;
 use codec::limit::least;
 use codec::number::UNSOUND;

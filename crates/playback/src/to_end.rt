@@ -3,7 +3,7 @@ ghost use mathlib.Core.Path.{_≡_};
 ghost use lib.ListN.{length};
 ghost use Rattle.reader.specs.Layout.{layoutOf};
 ghost use Rattle.reader.specs.Parse.{parse};
-ghost use Rattle.playback.specs.Finish.{shownPlay};
+ghost use Rattle.playback.specs.Shown.{shownPlay};
 ghost use Rattle.playback.specs.ToEnd.{playOf, refusedEnd, toEndOf};
 use crate::finish::Played;
 use crate::finish::finish;

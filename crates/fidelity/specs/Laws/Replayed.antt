@@ -22,7 +22,7 @@ use Rattle.history.specs.Faithful.{after, Faithful}
 use Rattle.history.specs.Laws.Faithful.{faithful}
 use Rattle.replayer.specs.declared.Stepped.{Stepped}
 use Rattle.pending.specs.Laws.All.{all-test}
-use Rattle.playback.specs.Finish.{tasksIn, finishedOf}
+use Rattle.scheduler.specs.Finish.{tasksIn, finishedOf}
 use Rattle.replayer.specs.OpenOf.{openOf}
 use Rattle.replayer.specs.Laws.ReadyOf.{ReadySet, ready-word}
 use Rattle.replayer.specs.ReadyOf.{isReady as isReadyBy, readyOf}

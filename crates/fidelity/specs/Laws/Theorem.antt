@@ -7,7 +7,7 @@ use Prim.Native.Nat.{ℕ, _+_, _≤_, _<_}
 use lib.ListN.{length}
 use lib.Seq.{ext-getD}
 use Rattle.reader.specs.Calls.{checkedOf}
-use Rattle.playback.specs.Finish.{finishedOf}
+use Rattle.scheduler.specs.Finish.{finishedOf}
 use Rattle.replayer.specs.Laws.OpenOf.{open-accepts}
 use Rattle.fidelity.specs.Bench.{tally, benchOf}
 use Rattle.fidelity.specs.Box.{Opening, openedBy, Asked, lastBox, recorded, recordingOf}

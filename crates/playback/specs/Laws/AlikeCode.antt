@@ -12,7 +12,8 @@ use Rattle.reader.specs.Layout.{layoutOf}
 use Rattle.reader.specs.Parse.{parse}
 use Rattle.playback.specs.declared.finish.Played.{Played}
 use Rattle.playback.specs.Alike.{sameEntries, alikeOf, refusing, comparing, compared, sameOutcomeOf}
-use Rattle.playback.specs.Finish.{Play, shownPlay}
+use Rattle.scheduler.specs.Finish.{Play}
+use Rattle.playback.specs.Shown.{shownPlay}
 use Rattle.playback.specs.ToEnd.{playOf}
 use Rattle.playback.specs.Laws.ToEndCode.{away, found, located}
 

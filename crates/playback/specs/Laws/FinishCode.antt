@@ -4,32 +4,22 @@ use mathlib.Core.Bool.{Bool}
 use mathlib.Core.List.{List}
 use Prim.Native.Nat.{ℕ, _+_}
 use native.Mathlib.Omega.{arith}
-use lib.ListN.{length}
 use Rattle.codec.specs.declared.Op.{Op}
 use Rattle.pending.specs.declared.Run.{Run}
-use Rattle.pending.specs.declared.next.Next.the-variants.{Open}
-use Rattle.playback.specs.Finish.{Play, onward, leftOver, finishOf, finishedOf, shownPlay}
-use Rattle.playback.specs.Laws.Finish.{Playing, Onward, goes-onward, finish-on, finish-end}
-use Rattle.playback.specs.Laws.Lowest.{IsNext}
+use Rattle.scheduler.specs.Finish.{Play, onward, leftOver, finishOf, finishedOf}
+use Rattle.playback.specs.Shown.{shownPlay}
+use Rattle.scheduler.specs.Laws.Finish.{Playing, Onward, goes-onward, finish-on, finish-end}
+use Rattle.scheduler.specs.Laws.Lowest.{IsNext, step-open}
 use Rattle.replayer.specs.Memory.{performed}
 use Rattle.replayer.specs.ReadyOf.{readyOf}
 use Rattle.pending.specs.Run.{movedOf}
-use Rattle.replayer.specs.StepOf.{onNext, stepOf}
-use Rattle.replayer.specs.Laws.StepCode.{clear-early-number, step-next}
+use Rattle.replayer.specs.StepOf.{onNext}
 
 -- a play on its way: each step takes one access away, and it comes to the same end
 pub record Going (b : List ℕ) (start x : Play) : Type 0 where
   pub playing : Playing b x
   pub steps : x .steps + leftOver (x .run) ≡ leftOver (start .run)
   pub same : finishOf b x ≡ finishOf b start
-
--- what the step of the next task does
-module _ (b : List ℕ) (x : Play) (w : Playing b x) (t : ℕ) (op : Op) (next : ℕ) (n : IsNext (x .run) b t op next) where
-  pub step-open : stepOf (x .run) b (x .memory) t ≡ onNext (x .run) (x .memory) t (Open op next)
-  step-open =
-      step-next (x .run) b (x .memory) t 0
-      (sym (clear-early-number (x .run) (length b) (length (x .memory)) t (record { sound = w .sound; memory = w .entries; below = n .below; left = n .left })))
-      refl (Open op next) (sym (n .opens))
 
 pub going-start : (b : List ℕ) (x : Play) → Playing b x → x .steps ≡ 0 → Going b x x
 going-start b x w z = record { playing = w; steps = omega arith; same = refl }

@@ -17,13 +17,13 @@ use Rattle.reader.specs.Parse.{Parsed, parse}
 use Rattle.reader.specs.Reading.{read as reads}
 use Rattle.reader.specs.Recording.{Recording}
 use Rattle.replayer.specs.declared.Stepped.{Stepped}
-use Rattle.playback.specs.Finish.{Play, finishedOf}
-use Rattle.playback.specs.Laws.Finish.{Playing}
+use Rattle.scheduler.specs.Finish.{Play, finishedOf}
+use Rattle.scheduler.specs.Laws.Finish.{Playing}
 use Rattle.replayer.specs.Laws.OpenOf.{opened-stands, open-accepts}
 use Rattle.replayer.specs.OpenOf.{openedRun, openOf}
-use Rattle.playback.specs.Schedule.{scheduleOf, playedBy}
+use Rattle.scheduler.specs.Schedule.{scheduleOf, playedBy}
 use Rattle.replayer.specs.ReadyOf.{readyOf}
-use Rattle.playback.specs.Laws.Schedule.{AllTaken as AllTakenBy, schedule-taken, schedule-ends}
+use Rattle.scheduler.specs.Laws.Schedule.{AllTaken as AllTakenBy, schedule-taken, schedule-ends}
 use Rattle.replayer.specs.StepOf.{stepOf}
 use Rattle.fidelity.specs.Bench.{Bench, benchOf, stepped, steppedAll, takes, tally, tallyOf, AllTaken}
 use Rattle.fidelity.specs.Box.{Opening, Asked, lastBox, recorded, recordingOf, recordingBy}

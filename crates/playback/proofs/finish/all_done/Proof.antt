@@ -7,9 +7,9 @@ use borrow.Author.Tests.{lt-ltb, le-ltb}
 use Rattle.codec.specs.Limit.{maxTasks}
 use Rattle.pending.specs.All.{allFrom}
 use Rattle.pending.specs.Laws.All.{all-on, all-off, all-end}
-use Rattle.playback.specs.Laws.Columns.{doneBy, allDoneOf}
-use Rattle.playback.specs.Finish.{tasksIn}
-use Rattle.playback.specs.Laws.Finish.{tasks-few}
+use Rattle.scheduler.specs.Laws.Columns.{doneBy, allDoneOf}
+use Rattle.scheduler.specs.Finish.{tasksIn}
+use Rattle.scheduler.specs.Laws.Finish.{tasks-few}
 use Rattle.playback.proofs.finish.all_done.Statement.{statement}
 use Rattle.playback.proofs.finish.all_done.Tie as tie
 

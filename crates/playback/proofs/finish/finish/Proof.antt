@@ -4,13 +4,13 @@ use Prim.Native.Nat.{_+_}
 use lib.ListN.{length}
 use denote.Ref.{now}
 use Rattle.pending.specs.declared.Run.{Run}
-use Rattle.playback.specs.Laws.Columns.{runOf}
-use Rattle.playback.specs.Laws.Columns.{columns-back, columns-finished}
-use Rattle.playback.specs.Laws.ColumnsCode.{Columned, columned-none}
-use Rattle.playback.specs.Finish.{Play, leftOver, finishedOf}
+use Rattle.scheduler.specs.Laws.Columns.{runOf}
+use Rattle.scheduler.specs.Laws.Columns.{columns-back, columns-finished}
+use Rattle.scheduler.specs.Laws.ColumnsCode.{Columned, columned-none}
+use Rattle.scheduler.specs.Finish.{Play, leftOver, finishedOf}
 use Rattle.playback.specs.Laws.FinishCode.{Going, going-start, going-on, going-end}
-use Rattle.playback.specs.Laws.Lowest.{SteppedTo, found-next, found-none}
-use Rattle.playback.proofs.Else.{not-ready}
+use Rattle.scheduler.specs.Laws.Lowest.{SteppedTo, found-next, found-none}
+use Rattle.scheduler.proofs.Else.{not-ready}
 use borrow.Author.Needs.{needs}
 use Rattle.playback.proofs.finish.finish.Statement.{statement}
 use Rattle.playback.proofs.finish.finish.Tie as tie

@@ -3,8 +3,8 @@ use lib.ListN.{length-map}
 use borrow.Author.Needs.{needs}
 use borrow.Author.Tests.{not-true, not-false}
 use Rattle.pending.specs.Laws.Moved.{Shaped}
-use Rattle.playback.specs.Laws.Columns.{columns-told}
-use Rattle.playback.specs.Finish.{finishedCall}
+use Rattle.scheduler.specs.Laws.Columns.{columns-told}
+use Rattle.playback.specs.Shown.{finishedCall}
 use Rattle.playback.proofs.finish.finished.Statement.{statement}
 use Rattle.playback.proofs.finish.finished.Tie as tie
 

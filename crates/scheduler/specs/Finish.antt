@@ -1,20 +1,15 @@
 -- Lowest ready task first, played to its end (document 01, "Replay"): while a task is ready the lowest of them is stepped. A run has
 -- finished if no task has accesses left; one that ends otherwise is stuck.
-use mathlib.Core.Bool.{Bool, false, cond, not}
+use mathlib.Core.Bool.{Bool, cond, not}
 use mathlib.Core.List.{List}
 use Prim.Native.Nat.{ℕ, zero, suc, _+_, _-_, min}
 use lib.Dec.{eqb}
-use lib.ListN.{length}
 use Rattle.pending.specs.declared.TaskRun.{TaskRun}
 use Rattle.pending.specs.declared.Run.{Run}
 use Rattle.codec.specs.Limit.{maxTasks}
-use Rattle.codec.specs.Number.{unsound}
-use Rattle.playback.specs.declared.finish.Completion.{Completion}
-use Rattle.playback.specs.declared.finish.Played.{Played}
 use Rattle.pending.specs.All.{allFrom}
 use Rattle.replayer.specs.ReadyOf.{hasLeft, readyOf}
 use Rattle.pending.specs.Run.{taskAt}
-use Rattle.pending.specs.Sound.{soundOf}
 use Rattle.replayer.specs.StepOf.{stepOf}
 use Rattle.replayer.specs.Word.{lowestReady}
 
@@ -63,11 +58,3 @@ isDone r t = not (hasLeft r t)
 
 abbrev pub finishedOf : Run → Bool
 finishedOf r = allFrom (isDone r) 0 (tasksIn (r .tasks))
-
--- what is answered of it; the memory is where it was lent
-abbrev pub shownPlay : Play → Played
-shownPlay x = record { tasks = x .run .tasks; objects = x .run .objects; steps = x .steps; finished = finishedOf (x .run) }
-
--- what is answered of a run over these bytes: 17 where it is unsound (document 01, "Number table")
-unfoldable pub finishedCall : Run → List ℕ → Completion
-finishedCall r b = cond (soundOf r (length b)) (record { number = 0; finished = finishedOf r }) (record { number = unsound; finished = false })

@@ -7,7 +7,7 @@ use lib.Dec.{eqb}
 use Rattle.pending.specs.declared.Run.{Run}
 use Rattle.pending.specs.declared.next.Next.{Next}
 use Rattle.pending.specs.declared.next.Next.the-variants.{Open, Held, Refused}
-use Rattle.playback.specs.Finish.{Play, leftOver}
+use Rattle.scheduler.specs.Finish.{Play, leftOver}
 use Rattle.pending.specs.Next.{nextOf}
 use Rattle.replayer.specs.ReadyOf.{readyOf}
 use Rattle.pending.specs.Run.{movedOf}

@@ -2,7 +2,7 @@
 ghost use mathlib.Core.Path.{_≡_};
 ghost use lib.ListN.{length};
 ghost use Rattle.codec.specs.Store.{store};
-ghost use Rattle.playback.specs.Schedule.{scheduleFrom};
+ghost use Rattle.scheduler.specs.Schedule.{scheduleFrom};
 use crate::columns::columns_of;
 use crate::lowest::NextStep;
 use crate::lowest::lowest;

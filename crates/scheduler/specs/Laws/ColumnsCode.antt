@@ -8,14 +8,14 @@ use Rattle.codec.specs.declared.Op.{Op}
 use Rattle.codec.specs.Limit.{maxTasks}
 use Rattle.pending.specs.declared.Run.{Run}
 use Rattle.pending.specs.declared.TaskRun.{TaskRun}
-use Rattle.playback.specs.declared.columns.Columns.{Columns}
-use Rattle.playback.specs.Laws.Columns.{runOf, placeOf, columnsOf, columns-back, columns-shaped, columns-task, columns-moved}
+use Rattle.scheduler.specs.declared.columns.Columns.{Columns}
+use Rattle.scheduler.specs.Laws.Columns.{runOf, placeOf, columnsOf, columns-back, columns-shaped, columns-task, columns-moved}
 use Rattle.pending.specs.Laws.Each.{each-length}
-use Rattle.playback.specs.Laws.Lowest.{IsNext, Behind, behind}
+use Rattle.scheduler.specs.Laws.Lowest.{IsNext, Behind, behind}
 use Rattle.pending.specs.Laws.Moved.{Shaped}
 use Rattle.pending.specs.Run.{doneOf, movedOf}
 use Rattle.pending.specs.Sound.{soundOf}
-use Rattle.playback.specs.Laws.Visit.{Noted, noted-none}
+use Rattle.scheduler.specs.Laws.Visit.{Noted, noted-none}
 
 pub record Columned (b : List ℕ) (tasks objects : ℕ) (places ends dones counts scans ats : List ℕ) : Type 0 where
   pub sound : soundOf (runOf tasks objects places ends dones counts) (length b) ≡ true

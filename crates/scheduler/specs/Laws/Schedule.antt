@@ -9,15 +9,14 @@ use lib.ListN.{length}
 use borrow.Author.Tests.{eq-eqb, ne-eqb}
 use Rattle.codec.specs.declared.Op.{Op}
 use Rattle.pending.specs.declared.Run.{Run}
-use Rattle.playback.specs.Finish.{Play, onward, playedOf, leftOver, finishOf}
-use Rattle.playback.specs.Laws.Finish.{Playing, goes-onward, finish-ends}
-use Rattle.playback.specs.Laws.FinishCode.{step-open}
-use Rattle.playback.specs.Laws.Lowest.{IsNext, goes-on, stops, standing, behind}
+use Rattle.scheduler.specs.Finish.{Play, onward, playedOf, leftOver, finishOf}
+use Rattle.scheduler.specs.Laws.Finish.{Playing, goes-onward, finish-ends}
+use Rattle.scheduler.specs.Laws.Lowest.{IsNext, goes-on, stops, standing, behind, step-open}
 use Rattle.pending.specs.Laws.Moved.{Shaped, moved-shaped}
 use Rattle.pending.specs.Next.{nextOf}
 use Rattle.replayer.specs.ReadyOf.{readyOf}
 use Rattle.pending.specs.Run.{movedOf}
-use Rattle.playback.specs.Schedule.{nextTask, behindOf, scheduleFrom, scheduleOf, steppedBy, playedBy}
+use Rattle.scheduler.specs.Schedule.{nextTask, behindOf, scheduleFrom, scheduleOf, steppedBy, playedBy}
 use Rattle.pending.specs.Sound.{soundOf}
 use Rattle.replayer.specs.StepOf.{onNext, stepOf}
 

@@ -1,2 +1,2 @@
 -- What a `let .. else` leaves in its else branch: the value is none of the kind that was asked for.
-mod Else
+pub mod Else

@@ -1,8 +1,8 @@
 // The lowest ready task of a run that columns hold: every play asks for it, and its task goes on.
 ghost use mathlib.Core.Path.{_≡_};
-ghost use Rattle.playback.specs.Laws.Columns.{runOf};
-ghost use Rattle.playback.specs.Laws.ColumnsCode.{Columned};
-ghost use Rattle.playback.specs.Laws.Lowest.{lowestOf, afterOf};
+ghost use Rattle.scheduler.specs.Laws.Columns.{runOf};
+ghost use Rattle.scheduler.specs.Laws.ColumnsCode.{Columned};
+ghost use Rattle.scheduler.specs.Laws.Lowest.{lowestOf, afterOf};
 use crate::visit::visit;
 use codec::Op;
 use codec::limit::TASKS;
@@ -11,14 +11,14 @@ use pending::TaskRun;
 use pending::next::Next;
 
 // The lowest ready task and its next access; or no task is ready.
-pub(crate) enum NextStep {
+pub enum NextStep {
     Ready { task: usize, op: Op },
     Stopped,
 }
 
 // Visits the tasks from 0 on until one is open: it goes on to the place behind its access, with one more done. What is learnt of the
 // tasks that are held is kept in the notes.
-pub(crate) fn lowest(
+pub fn lowest(
     tasks: usize,
     objects: usize,
     bytes: &[u8],

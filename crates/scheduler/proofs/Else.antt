@@ -3,9 +3,9 @@ use mathlib.Core.Path.{_≡_, refl}
 use mathlib.Core.List.{[], _∷_}
 use types.Run.{OneOf, miss}
 use denote.Enum.Declared.{tagOf}
-use Rattle.playback.proofs.lowest.NextStep.{the-type as step-type}
-use Rattle.playback.specs.declared.lowest.NextStep.{NextStep}
-use Rattle.playback.specs.declared.lowest.NextStep.the-variants.{Ready, Stopped}
+use Rattle.scheduler.proofs.lowest.NextStep.{the-type as step-type}
+use Rattle.scheduler.specs.declared.lowest.NextStep.{NextStep}
+use Rattle.scheduler.specs.declared.lowest.NextStep.the-variants.{Ready, Stopped}
 
 pub not-ready : (n : NextStep) → OneOf (1 ∷ []) (tagOf step-type n) → n ≡ Stopped
 not-ready (Ready t o) h = absurd (miss (1 ∷ []) 0 tt h)

@@ -1,17 +1,17 @@
 // A run as columns: of each field of its tasks one array, which is lent where a run by value would be copied.
 ghost use mathlib.Core.Path.{_≡_};
-ghost use Rattle.playback.specs.Laws.Columns.{columnsOf};
+ghost use Rattle.scheduler.specs.Laws.Columns.{columnsOf};
 use codec::limit::TASKS;
 use pending::Run;
 
-pub(crate) struct Columns {
+pub struct Columns {
     pub places: [usize; TASKS],
     pub ends: [usize; TASKS],
     pub dones: [usize; TASKS],
     pub counts: [usize; TASKS],
 }
 
-pub(crate) fn columns_of(run: Run) -> Columns
+pub fn columns_of(run: Run) -> Columns
     ensures { λ r. ⌜ r ≡ columnsOf run ⌝ }
 {
     let mut places = [0usize; TASKS];

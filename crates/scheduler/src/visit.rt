@@ -5,7 +5,7 @@ ghost use lib.ListN.{length, getD};
 ghost use Rattle.codec.specs.Limit.{maxTasks};
 ghost use Rattle.pending.specs.declared.Run.{Run};
 ghost use Rattle.pending.specs.Laws.Look.{OneTask};
-ghost use Rattle.playback.specs.Laws.Visit.{Note, Noted, Visited};
+ghost use Rattle.scheduler.specs.Laws.Visit.{Note, Noted, Visited};
 use codec::limit::TASKS;
 use reader::Limits;
 use pending::TaskRun;

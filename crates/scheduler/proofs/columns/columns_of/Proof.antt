@@ -1,12 +1,12 @@
 use mathlib.Core.Path.{refl}
 use Prim.Native.Nat.{_-_}
 use Rattle.codec.specs.Limit.{maxTasks}
-use Rattle.playback.specs.Laws.Columns.{placeOf, endOf, countOf}
+use Rattle.scheduler.specs.Laws.Columns.{placeOf, endOf, countOf}
 use Rattle.pending.specs.Laws.Each.{Filled, filled-none, filled-more, filled-all}
 use Rattle.pending.specs.Run.{doneOf}
 use borrow.Author.Needs.{needs}
-use Rattle.playback.proofs.columns.columns_of.Statement.{statement}
-use Rattle.playback.proofs.columns.columns_of.Tie as tie
+use Rattle.scheduler.proofs.columns.columns_of.Statement.{statement}
+use Rattle.scheduler.proofs.columns.columns_of.Tie as tie
 
 abbrev Inv-loop : tie.InvT-loop
 Inv-loop run places₀ ends₀ dones₀ counts₀ t₀ places ends dones counts t = Filled (placeOf (run .runs)) maxTasks places t × Filled (endOf (run .runs)) maxTasks ends t × Filled (doneOf (run .runs)) maxTasks dones t × Filled (countOf (run .runs)) maxTasks counts t

@@ -11,15 +11,15 @@ use Rattle.pending.specs.Laws.Look.{OneTask}
 use Rattle.replayer.specs.ReadyOf.{isReady}
 use Rattle.pending.specs.Run.{limitsOf}
 use Rattle.pending.specs.Laws.Sound.{Sound, sound-facts}
-use Rattle.playback.specs.Laws.Columns.{taskOf, runOf}
-use Rattle.playback.specs.Laws.Columns.{columns-task, columns-one}
-use Rattle.playback.specs.Laws.ColumnsCode.{Columned, columned-noted, columned-moved, columned-on}
-use Rattle.playback.specs.Laws.Lowest.{lowestOf, afterOf}
-use Rattle.playback.specs.Laws.Lowest.{IsNext, ready-left, lowest-next, lowest-none, visit-first, visit-all}
-use Rattle.playback.specs.Laws.Visit.{Visited, none-more, own-note}
+use Rattle.scheduler.specs.Laws.Columns.{taskOf, runOf}
+use Rattle.scheduler.specs.Laws.Columns.{columns-task, columns-one}
+use Rattle.scheduler.specs.Laws.ColumnsCode.{Columned, columned-noted, columned-moved, columned-on}
+use Rattle.scheduler.specs.Laws.Lowest.{lowestOf, afterOf}
+use Rattle.scheduler.specs.Laws.Lowest.{IsNext, ready-left, lowest-next, lowest-none, visit-first, visit-all}
+use Rattle.scheduler.specs.Laws.Visit.{Visited, none-more, own-note}
 use borrow.Author.Needs.{needs}
-use Rattle.playback.proofs.lowest.lowest.Statement.{statement}
-use Rattle.playback.proofs.lowest.lowest.Tie as tie
+use Rattle.scheduler.proofs.lowest.lowest.Statement.{statement}
+use Rattle.scheduler.proofs.lowest.lowest.Tie as tie
 
 abbrev Inv-loop : tie.InvT-loop
 Inv-loop tasks objects bytes places₀ ends dones₀ counts scans₀ ats₀ t₀ places dones scans ats t =

@@ -10,12 +10,12 @@ use Rattle.codec.specs.Store.{store}
 use Rattle.codec.specs.Laws.Store.{store-none, store-cons}
 use Rattle.replayer.specs.declared.ReadyWord.{ReadyWord}
 use Rattle.pending.specs.declared.Run.{Run}
-use Rattle.playback.specs.Laws.Lowest.{IsNext}
+use Rattle.scheduler.specs.Laws.Lowest.{IsNext}
 use Rattle.replayer.specs.Laws.ReadyOf.{ready-unsound}
 use Rattle.replayer.specs.ReadyOf.{readyOf}
 use Rattle.pending.specs.Run.{movedOf}
-use Rattle.playback.specs.Schedule.{scheduleFrom}
-use Rattle.playback.specs.Laws.Schedule.{schedule-stops, schedule-goes}
+use Rattle.scheduler.specs.Schedule.{scheduleFrom}
+use Rattle.scheduler.specs.Laws.Schedule.{schedule-stops, schedule-goes}
 use Rattle.pending.specs.Sound.{soundOf}
 
 -- a buffer and the run after n steps, against those at first

@@ -6,15 +6,15 @@ use denote.Ref.{now}
 use borrow.Author.Tests.{not-true, not-false}
 use Rattle.pending.specs.declared.Run.{Run}
 use Rattle.pending.specs.Laws.Moved.{Shaped}
-use Rattle.playback.specs.Laws.Columns.{runOf}
-use Rattle.playback.specs.Laws.Columns.{columns-back}
-use Rattle.playback.specs.Laws.ColumnsCode.{Columned, columned-none}
-use Rattle.playback.specs.Laws.Lowest.{SteppedTo, found-next, found-none}
-use Rattle.playback.specs.Laws.ScheduleCode.{Writing, wrote-none, writing-none, writing-more, writing-stops, writing-full}
-use Rattle.playback.proofs.Else.{not-ready}
+use Rattle.scheduler.specs.Laws.Columns.{runOf}
+use Rattle.scheduler.specs.Laws.Columns.{columns-back}
+use Rattle.scheduler.specs.Laws.ColumnsCode.{Columned, columned-none}
+use Rattle.scheduler.specs.Laws.Lowest.{SteppedTo, found-next, found-none}
+use Rattle.scheduler.specs.Laws.ScheduleCode.{Writing, wrote-none, writing-none, writing-more, writing-stops, writing-full}
+use Rattle.scheduler.proofs.Else.{not-ready}
 use borrow.Author.Needs.{needs}
-use Rattle.playback.proofs.schedule.schedule.Statement.{statement}
-use Rattle.playback.proofs.schedule.schedule.Tie as tie
+use Rattle.scheduler.proofs.schedule.schedule.Statement.{statement}
+use Rattle.scheduler.proofs.schedule.schedule.Tie as tie
 
 abbrev Inv-loop : tie.InvT-loop
 Inv-loop run bytes out₀ places₀ ends dones₀ counts scans₀ ats₀ steps₀ out places dones scans ats steps =

@@ -2,10 +2,10 @@ use denote.Ref.{now}
 use lib.ListN.{getD}
 use Rattle.pending.specs.FirstUnmet.{Reached}
 use Rattle.pending.specs.Laws.FirstUnmet.{ahead-rest}
-use Rattle.playback.specs.Laws.Visit.{visit-none, visit-looks, noted-set, noted-scan}
+use Rattle.scheduler.specs.Laws.Visit.{visit-none, visit-looks, noted-set, noted-scan}
 use borrow.Author.Needs.{needs}
-use Rattle.playback.proofs.visit.visit.Statement.{statement}
-use Rattle.playback.proofs.visit.visit.Tie as tie
+use Rattle.scheduler.proofs.visit.visit.Statement.{statement}
+use Rattle.scheduler.proofs.visit.visit.Tie as tie
 
 -- how far the entry is judged that a note is of
 resumed : (c : tie.After-first-unmet) →

@@ -9,25 +9,27 @@ use native.Mathlib.Decide.{decLt}
 use lib.ListN.{length}
 use borrow.Author.Tests.{ltb-true, eq-eqb, ne-eqb}
 use Rattle.pending.specs.declared.Run.{Run}
-use Rattle.playback.specs.declared.lowest.NextStep.{NextStep}
-use Rattle.playback.specs.declared.lowest.NextStep.the-variants.{Ready, Stopped}
+use Rattle.scheduler.specs.declared.lowest.NextStep.{NextStep}
+use Rattle.scheduler.specs.declared.lowest.NextStep.the-variants.{Ready, Stopped}
 use Rattle.pending.specs.declared.next.Next.{Next}
 use Rattle.pending.specs.declared.next.Next.the-variants.{Open, Held, Refused}
 use Rattle.pending.specs.Next.{nextOf, isOpen}
 use Rattle.replayer.specs.ReadyOf.{readyOf, hasLeft, isReady}
-use Rattle.playback.specs.Schedule.{nextTask, behindOf}
+use Rattle.scheduler.specs.Schedule.{nextTask, behindOf}
 use Rattle.codec.specs.Laws.Decide.{both-pass, never}
 use Rattle.codec.specs.declared.Op.{Op}
 use Rattle.codec.specs.Limit.{maxTasks}
-use Rattle.playback.specs.Finish.{leftOver}
-use Rattle.playback.specs.Laws.Finish.{left-less, ready-word-zero}
+use Rattle.scheduler.specs.Finish.{Play, leftOver}
+use Rattle.scheduler.specs.Laws.Finish.{Playing, left-less, ready-word-zero}
 use Rattle.pending.specs.Laws.Moved.{Shaped, moved-tasks, moved-sound}
 use Rattle.pending.specs.Laws.Next.{next-within}
 use Rattle.replayer.specs.Laws.ReadyOf.{LowestIs, ready, nowhere, ready-word}
 use Rattle.pending.specs.Run.{taskAt, movedOf}
 use Rattle.pending.specs.Sound.{soundOf}
+use Rattle.replayer.specs.StepOf.{onNext, stepOf}
+use Rattle.replayer.specs.Laws.StepCode.{clear-early-number, step-next}
 use Rattle.pending.specs.Laws.Sound.{sound-facts, sound-test}
-use Rattle.playback.specs.Laws.Visit.{Noted, noted-onward}
+use Rattle.scheduler.specs.Laws.Visit.{Noted, noted-onward}
 use Rattle.replayer.specs.Word.{hasBit, lowestIn, lowestReady}
 
 abbrev pub readyAt : ℕ → Next → NextStep
@@ -155,3 +157,11 @@ behind r b t op next s h w =
       fewer = rw (moved-tasks r t next) (left-less r t next (r .tasks) h (w .few) l (w .below));
       noted = noted-onward r b t op next h (w .few) (w .opens);
     }
+
+-- what the step of the next task does
+module _ (b : List ℕ) (x : Play) (w : Playing b x) (t : ℕ) (op : Op) (next : ℕ) (n : IsNext (x .run) b t op next) where
+  pub step-open : stepOf (x .run) b (x .memory) t ≡ onNext (x .run) (x .memory) t (Open op next)
+  step-open =
+      step-next (x .run) b (x .memory) t 0
+      (sym (clear-early-number (x .run) (length b) (length (x .memory)) t (record { sound = w .sound; memory = w .entries; below = n .below; left = n .left })))
+      refl (Open op next) (sym (n .opens))

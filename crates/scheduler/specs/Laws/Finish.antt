@@ -12,7 +12,7 @@ use borrow.Author.Tests.{eq-eqb, ne-eqb}
 use Rattle.codec.specs.Laws.Decide.{never}
 use Rattle.codec.specs.Limit.{maxTasks}
 use Rattle.pending.specs.declared.Run.{Run}
-use Rattle.playback.specs.Finish.{Play, wordAt, taskNext, onward, playedOf, leftIn, leftOver, finishOf, tasksIn}
+use Rattle.scheduler.specs.Finish.{Play, wordAt, taskNext, onward, playedOf, leftIn, leftOver, finishOf, tasksIn}
 use Rattle.pending.specs.Laws.Moved.{Shaped, moved-own, moved-other, moved-tasks}
 use Rattle.replayer.specs.Laws.ReadyOf.{ready, nowhere, ready-word}
 use Rattle.replayer.specs.ReadyOf.{isReady, readyOf}

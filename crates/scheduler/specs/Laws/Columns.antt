@@ -11,13 +11,13 @@ use lib.Seq.{getD-set-same, getD-set-other}
 use Rattle.codec.specs.Limit.{maxTasks}
 use Rattle.pending.specs.declared.TaskRun.{TaskRun}
 use Rattle.pending.specs.declared.Run.{Run}
-use Rattle.playback.specs.declared.columns.Columns.{Columns}
-use Rattle.playback.specs.Finish.{tasksIn, isDone, finishedOf}
+use Rattle.scheduler.specs.declared.columns.Columns.{Columns}
+use Rattle.scheduler.specs.Finish.{tasksIn, isDone, finishedOf}
 use Rattle.pending.specs.All.{allFrom}
 use Rattle.pending.specs.Dones.{donesOf}
 use Rattle.pending.specs.Each.{each}
 use Rattle.pending.specs.Run.{taskAt, blankTask, doneOf, limitsOf, movedOf}
-use Rattle.playback.specs.Laws.Finish.{tasks-few}
+use Rattle.scheduler.specs.Laws.Finish.{tasks-few}
 use Rattle.pending.specs.Laws.All.{all-same}
 use Rattle.pending.specs.Laws.Each.{each-length, each-at, each-of}
 use Rattle.pending.specs.Laws.Look.{OneTask}

@@ -1,0 +1,3 @@
+pub mod Finish
+pub mod Schedule
+pub mod Laws
