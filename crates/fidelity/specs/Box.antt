@@ -11,7 +11,7 @@ use Rattle.history.specs.Entry.{Act, Entry}
 use Rattle.history.specs.History.{History}
 use Rattle.tracker.specs.Orderings.{writtenOf}
 use Rattle.recorder.specs.AccessOf.{isWrite}
-use Rattle.recorder.specs.OpenOf.{OpenOutcome, openOf}
+use Rattle.opening.specs.OpenOf.{OpenOutcome, openOf}
 use Rattle.recorder.specs.WholeRun.{AccessCall, Call, Box, outcome, leftBy, calledAll, packed}
 use Rattle.fidelity.specs.Filed.{bodiesFrom}
 

@@ -3,7 +3,7 @@
 use mathlib.Core.List.{List, [], _∷_}
 use Prim.Native.Nat.{ℕ}
 use Rattle.reader.specs.declared.Checked.{Checked}
-use Rattle.recorder.specs.declared.Opened.{Opened}
+use Rattle.opening.specs.declared.Opened.{Opened}
 use Rattle.recorder.specs.declared.Accessed.{Accessed}
 use Rattle.sections.specs.declared.Sectioned.{Sectioned}
 use Rattle.sections.specs.declared.pack.Packed.{Packed}

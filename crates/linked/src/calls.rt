@@ -11,7 +11,7 @@ ghost use Rattle.codec.specs.Store.{store};
 ghost use Rattle.reader.specs.Calls.{checkedOf, bodyChecked};
 ghost use Rattle.reader.specs.Parse.{parse};
 ghost use Rattle.recorder.specs.AccessOf.{accessOf};
-ghost use Rattle.recorder.specs.OpenOf.{openOf};
+ghost use Rattle.opening.specs.OpenOf.{openOf};
 ghost use Rattle.sections.specs.SectionOf.{sectionOf};
 ghost use Rattle.replayer.specs.OpenOf.{openOf as replayOf};
 ghost use Rattle.replayer.specs.ReadyOf.{readyOf};
@@ -56,7 +56,7 @@ pub extern "C" fn wk_open(
     ensures { λ _. ⌜ now (halves .exit) ≡ store (now (halves .entry)) 0 (halvesOf (openOf tasks objects (now (owners .entry)) (now (starts .entry)) (now (memory .entry)) (now (out .entry)) .answer .state)) ⌝ }
     ensures { λ _. ⌜ now (words .exit) ≡ store (now (words .entry)) 0 (wordsOf (openOf tasks objects (now (owners .entry)) (now (starts .entry)) (now (memory .entry)) (now (out .entry)) .answer .state)) ⌝ }
 {
-    let r = recorder::open(tasks, objects, owners, starts, memory, out);
+    let r = opening::open(tasks, objects, owners, starts, memory, out);
     answer[0] = r.number as usize;
     answer[1] = r.written;
     let state = r.state;

@@ -3,7 +3,7 @@
 use mathlib.Core.Path.{_≡_}
 use mathlib.Core.List.{[], _∷_}
 use lib.ListN.{replicate}
-use Rattle.recorder.specs.OpenOf.{OpenOutcome, openOf}
+use Rattle.opening.specs.OpenOf.{OpenOutcome, openOf}
 use Rattle.recorder.specs.WholeRun.{AccessCall, Call, Box, outcome, calledAll}
 
 -- task 0 reads object 0

@@ -1,4 +1,3 @@
 pub mod Accepted
 pub mod AccessCode
 pub mod Full
-pub mod OpenCode

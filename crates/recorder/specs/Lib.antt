@@ -1,5 +1,4 @@
 pub mod AccessOf
 pub mod Full
-pub mod OpenOf
 pub mod WholeRun
 pub mod Laws

@@ -7,7 +7,7 @@ use Rattle.codec.specs.Encode.{access}
 use Rattle.reader.specs.Parse.{parse}
 use Rattle.reader.specs.Calls.{checkedOf}
 use Rattle.reader.specs.Reading.{stop}
-use Rattle.recorder.specs.OpenOf.{OpenOutcome, openOf}
+use Rattle.opening.specs.OpenOf.{OpenOutcome, openOf}
 use Rattle.recorder.specs.WholeRun.{Call, Box, outcome, calledAll, packed}
 
 -- an opening of two objects owned by task 0, with starting values 0 and output enough

@@ -4,7 +4,7 @@ use mathlib.Core.List.{List}
 use Prim.Native.Nat.{ℕ, zero, suc, _+_, _*_, _/_}
 use lib.ListN.{length, getD}
 use Rattle.recorder.specs.AccessOf.{AccessOutcome, accessOf}
-use Rattle.recorder.specs.OpenOf.{OpenOutcome, openOf}
+use Rattle.opening.specs.OpenOf.{OpenOutcome, openOf}
 use Rattle.tracker.specs.declared.State.{State}
 use Rattle.timed.specs.Digest.{mixedIn, accessWord}
 

@@ -57,7 +57,7 @@ pub extern "C" fn wk_script(
     ensures { λ r. ⌜ now (memory .exit) ≡ scriptOf tasks objects (now (owners .entry)) (now (starts .entry)) (now (script .entry)) (now (memory .entry)) (now (out .entry)) .memory ⌝ }
     ensures { λ r. ⌜ now (out .exit) ≡ scriptOf tasks objects (now (owners .entry)) (now (starts .entry)) (now (script .entry)) (now (memory .entry)) (now (out .entry)) .out ⌝ }
 {
-    let opened = recorder::open(tasks, objects, owners, starts, memory, out);
+    let opened = opening::open(tasks, objects, owners, starts, memory, out);
     let mut state = opened.state;
     let mut digest: u64 = 0;
     for i in 0..script.len() / 4 {

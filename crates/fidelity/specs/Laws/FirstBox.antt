@@ -16,8 +16,8 @@ use Rattle.history.specs.Laws.History.{at-nil}
 use Rattle.tracker.specs.Opened.{openedState}
 use Rattle.tracker.specs.Laws.Opened.{Opens}
 use Rattle.tracker.specs.Laws.Tracks.{tracks-opened}
-use Rattle.recorder.specs.OpenOf.{openNumber, opened, openOf}
-use Rattle.recorder.specs.Laws.OpenCode.{OpenFacts, open-facts, open-accepted}
+use Rattle.opening.specs.OpenOf.{openNumber, opened, openOf}
+use Rattle.opening.specs.Laws.OpenCode.{OpenFacts, open-facts, open-accepted}
 use Rattle.fidelity.specs.Box.{Opening, openedBy, Asked, firstBox, lastBox, recorded}
 use Rattle.fidelity.specs.Filed.{filedOf}
 use Rattle.reader.specs.Laws.Strict.{below-under}

@@ -12,8 +12,8 @@ use Rattle.codec.specs.Encode.{head}
 use Rattle.codec.specs.Laws.Encode.{head-length, section-length}
 use Rattle.codec.specs.Head.{headLength}
 use Rattle.reader.specs.Range.{AllUnder}
-use Rattle.recorder.specs.OpenOf.{openNumber, opened, openOf}
-use Rattle.recorder.specs.Laws.OpenCode.{open-facts}
+use Rattle.opening.specs.OpenOf.{openNumber, opened, openOf}
+use Rattle.opening.specs.Laws.OpenCode.{open-facts}
 use Rattle.recorder.specs.WholeRun.{Box, calledAll, packed as packedWhole}
 use Rattle.fidelity.specs.Box.{Opening, openedBy, Asked, firstBox, lastBox, recordedFrom}
 use Rattle.fidelity.specs.Laws.BoxMatches.{sections-accepted}

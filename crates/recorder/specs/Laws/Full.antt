@@ -17,7 +17,7 @@ use Rattle.tracker.specs.Laws.State.{Shaped}
 use Rattle.tracker.specs.State.{doneOf}
 use Rattle.recorder.specs.AccessOf.{checked, accessNumber, accepted, refused, accessOf}
 use Rattle.recorder.specs.Laws.Accepted.{Takes, takes-accepted, entry-bound}
-use Rattle.recorder.specs.OpenOf.{entriesOk, openNumber, opened, openOf}
+use Rattle.opening.specs.OpenOf.{entriesOk, openNumber, opened, openOf}
 use Rattle.recorder.specs.WholeRun.{Call, Box, outcome, called, calledAll}
 use Rattle.recorder.specs.Full.{again, opening, first, Full}
 

@@ -21,7 +21,7 @@ use Rattle.tracker.specs.Row.{rowOf}
 use Rattle.tracker.specs.Sound.{lastSound, taskSound, tasksSound, objectSound, soundOf}
 use Rattle.tracker.specs.Sum.{sumOf}
 use Rattle.recorder.specs.AccessOf.{checked, accessNumber, accepted, refused, accessOf}
-use Rattle.recorder.specs.OpenOf.{entriesOk, openNumber, opened, openOf}
+use Rattle.opening.specs.OpenOf.{entriesOk, openNumber, opened, openOf}
 use Rattle.sections.specs.SectionOf.{logChecked, sectionChecked, sectionOf}
 use Rattle.recorder.specs.WholeRun.{outcome, called, calledAll, packed}
 use Rattle.runs.specs.Calls.{Calls}

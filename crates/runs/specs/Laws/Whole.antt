@@ -13,7 +13,7 @@ use Rattle.reader.specs.Parse.{allBelow, parse, headAt, onHead, sectionsAfter, 
 use Rattle.reader.specs.Part.{part}
 use Rattle.reader.specs.Section.{sectionsOf, sectionAt, onSection, sectionBody, taken}
 use Rattle.recorder.specs.AccessOf.{accessOf, accessNumber, checked, accepted, refused}
-use Rattle.recorder.specs.OpenOf.{openOf, opened, openNumber, entriesOk}
+use Rattle.opening.specs.OpenOf.{openOf, opened, openNumber, entriesOk}
 use Rattle.sections.specs.SectionOf.{sectionOf, sectionChecked, logChecked}
 use Rattle.recorder.specs.WholeRun.{outcome, called, calledAll, packed}
 use Rattle.pending.specs.All.{allFrom}

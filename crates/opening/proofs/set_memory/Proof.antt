@@ -5,8 +5,8 @@ use lib.ListN.{length, take, length-set}
 use denote.Ref.{now}
 use Rattle.reader.specs.Laws.OneByOne.{copy-more, copy-end}
 use borrow.Author.Needs.{needs}
-use Rattle.recorder.proofs.opening.set_memory.Statement.{statement}
-use Rattle.recorder.proofs.opening.set_memory.Tie as tie
+use Rattle.opening.proofs.set_memory.Statement.{statement}
+use Rattle.opening.proofs.set_memory.Tie as tie
 
 abbrev Inv-loop : tie.InvT-loop
 Inv-loop memory₀ starts i₀ i-end memory i =

@@ -8,10 +8,10 @@ use Rattle.codec.specs.Head.{headLength}
 use Rattle.reader.specs.Parse.{allBelow}
 use Rattle.codec.specs.Limit.{isWithin, maxTasks, maxObjects}
 use Rattle.codec.specs.Laws.Limit.{within-facts}
-use Rattle.recorder.specs.OpenOf.{entriesOk, openNumber}
+use Rattle.opening.specs.OpenOf.{entriesOk, openNumber}
 use borrow.Author.Needs.{needs}
-use Rattle.recorder.proofs.opening.open_number.Statement.{statement}
-use Rattle.recorder.proofs.opening.open_number.Tie as tie
+use Rattle.opening.proofs.open_number.Statement.{statement}
+use Rattle.opening.proofs.open_number.Tie as tie
 
 -- the tests that were passed, one behind another
 tasks-fit : (c : tie.Else1) → isWithin 1 maxTasks (c .before .before .before .args .tasks) ≡ true

@@ -6,8 +6,8 @@ use denote.Ref.{now}
 use Rattle.reader.specs.Parse.{allBelow}
 use Rattle.reader.specs.Laws.OneByOne.{below-on, below-off, below-end}
 use borrow.Author.Needs.{needs}
-use Rattle.recorder.proofs.opening.owners_below.Statement.{statement}
-use Rattle.recorder.proofs.opening.owners_below.Tie as tie
+use Rattle.opening.proofs.owners_below.Statement.{statement}
+use Rattle.opening.proofs.owners_below.Tie as tie
 
 abbrev Inv-loop : tie.InvT-loop
 Inv-loop owners tasks i₀ i-end i =

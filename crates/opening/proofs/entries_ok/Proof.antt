@@ -1,7 +1,7 @@
 use borrow.Author.Tests.{eq-eqb, ne-eqb}
-use Rattle.recorder.specs.OpenOf.{entriesOk}
-use Rattle.recorder.proofs.opening.entries_ok.Statement.{statement}
-use Rattle.recorder.proofs.opening.entries_ok.Tie as tie
+use Rattle.opening.specs.OpenOf.{entriesOk}
+use Rattle.opening.proofs.entries_ok.Statement.{statement}
+use Rattle.opening.proofs.entries_ok.Tie as tie
 
 returns : tie.Need-returns
 unfolding entriesOk

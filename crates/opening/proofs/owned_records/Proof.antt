@@ -8,8 +8,8 @@ use Rattle.codec.specs.Limit.{maxObjects}
 use Rattle.tracker.specs.Opened.{ownedRecords}
 use Rattle.tracker.specs.Laws.Opened.{records-none, records-more}
 use borrow.Author.Needs.{needs}
-use Rattle.recorder.proofs.opening.owned_records.Statement.{statement}
-use Rattle.recorder.proofs.opening.owned_records.Tie as tie
+use Rattle.opening.proofs.owned_records.Statement.{statement}
+use Rattle.opening.proofs.owned_records.Tie as tie
 
 abbrev Inv-loop : tie.InvT-loop
 Inv-loop owners records₀ i₀ i-end records i =

@@ -1,0 +1,2 @@
+pub mod OpenOf
+pub mod Laws
