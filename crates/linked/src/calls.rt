@@ -32,11 +32,11 @@ use arrays::run_of;
 use arrays::state_of;
 use playback::alike::same_outcome;
 use playback::finish::finished;
-use scheduler::schedule::schedule;
 use playback::to_end::replay_to_end;
 use replayer::lowest_ready;
 use replayer::ready;
 use replayer::ready_count;
+use scheduler::schedule::schedule;
 
 #[no_mangle]
 pub extern "C" fn wk_open(

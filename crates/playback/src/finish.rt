@@ -5,15 +5,15 @@ ghost use Rattle.scheduler.specs.Laws.Columns.{allDoneOf};
 ghost use Rattle.scheduler.specs.Finish.{leftOver, finishOf};
 ghost use Rattle.playback.specs.Shown.{shownPlay, finishedCall};
 ghost use Rattle.scheduler.specs.Laws.Finish.{Playing};
-use scheduler::columns::columns_of;
-use scheduler::lowest::NextStep;
-use scheduler::lowest::lowest;
 use codec::limit::TASKS;
 use codec::limit::least;
 use codec::number::UNSOUND;
 use pending::Run;
 use pending::sound::sound;
 use replayer::stepping::perform;
+use scheduler::columns::columns_of;
+use scheduler::lowest::NextStep;
+use scheduler::lowest::lowest;
 
 // Whether a run has finished; 17 and no for one that is not sound.
 pub struct Completion {

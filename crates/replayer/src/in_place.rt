@@ -2,9 +2,9 @@
 ghost use mathlib.Core.Path.{_≡_};
 ghost use Rattle.replayer.specs.StepOf.{stepOf};
 ghost use Rattle.replayer.specs.InPlace.{shownOf};
-use pending::Run;
 use crate::Stepped;
 use crate::step;
+use pending::Run;
 
 // The access that was done, as `Stepped` answers it; the run is where it was lent.
 pub struct Step {

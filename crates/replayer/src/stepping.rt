@@ -6,11 +6,7 @@ ghost use Rattle.pending.specs.Run.{doneOf, movedOf};
 ghost use Rattle.replayer.specs.Memory.{valueOf, performed};
 ghost use Rattle.replayer.specs.StepOf.{refusedStep, earlyNumber};
 ghost use Rattle.replayer.specs.Laws.StepOf.{lateRefusal};
-use pending::Run;
 use crate::Stepped;
-use pending::TaskRun;
-use pending::next::Next;
-use pending::sound::sound;
 use codec::Op;
 use codec::kind::writes;
 use codec::number::ENTRIES;
@@ -18,6 +14,10 @@ use codec::number::FINISHED;
 use codec::number::HELD;
 use codec::number::NO_TASK;
 use codec::number::UNSOUND;
+use pending::Run;
+use pending::TaskRun;
+use pending::next::Next;
+use pending::sound::sound;
 use reader::Checked;
 
 // 17, 3, 5, 15, or 0 where none of them applies.
