@@ -1,4 +1,4 @@
-//! Random states, runs and recordings: sound, bent, damaged.
+//! Random scripts for the clock, and random states, runs and recordings: sound, bent, damaged.
 
 use crate::peer::recorder::{self, Hold, ObjectRecord};
 use crate::peer::{reader, replayer};
@@ -15,6 +15,38 @@ pub fn objects_in(bytes: &[u8]) -> usize {
     match bytes {
         [_, _, _, _, _, _, low, high, ..] => u16::from_le_bytes([*low, *high]).min(300).into(),
         _ => 0,
+    }
+}
+
+/// What an opening is given, and accesses, four numbers each: task, object, sort, value.
+pub struct Script {
+    pub tasks: usize,
+    pub owners: Vec<u8>,
+    pub starts: Vec<u32>,
+    pub accesses: Vec<u32>,
+}
+
+/// Scripts.
+impl Random {
+    /// Three accesses of four are to an object of the task's own, the rest to any; one in three writes.
+    pub fn script(&mut self, tasks: usize, objects: usize, count: usize) -> Script {
+        let owners = (0..objects).map(|i| (i % tasks) as u8).collect();
+        let starts = self.words(objects);
+        let mut accesses = Vec::new();
+        for _ in 0..count {
+            let task = self.below(tasks);
+            let any = self.below(objects);
+            let own = (any / tasks * tasks + task) % objects;
+            let object = self.mostly(4, own, any);
+            let write = self.once_in(3);
+            accesses.extend([task as u32, object as u32, write.into(), self.word()]);
+        }
+        Script {
+            tasks,
+            owners,
+            starts,
+            accesses,
+        }
     }
 }
 

@@ -1,9 +1,9 @@
 //! The proved library as it is linked in: the functions of `crates/linked` and `crates/timed`, and a state or a run as the arrays that they take.
 
+use crate::inputs::Script;
 use crate::peer::{recorder, replayer};
-use crate::table::Script;
 
-/// T, N, Last's task and number, Done and Took of each task, each object's case and task (`crates/linked/src/layout.rt`).
+/// T, N, Last's task and number, Done and Took of each task, each object's case and task (`crates/arrays/specs/Halves.antt`).
 type Halves = [u16; 548];
 /// G, Seen of each task, each object's share number.
 type Words = [u32; 273];

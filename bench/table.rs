@@ -2,6 +2,7 @@
 //! between: an opening sets the memory, and what is written over is the same each time.
 
 use crate::both::Both;
+use crate::inputs::Script;
 use crate::peer::{reader, recorder};
 use crate::random::Random;
 use crate::{ours, theirs};
@@ -11,34 +12,8 @@ use std::time::Instant;
 /// For each row: others may hold the machine for a part of it.
 const SECONDS: f64 = 1.5;
 
-/// What an opening is given, and accesses, four numbers each: task, object, sort, value.
-pub struct Script {
-    pub tasks: usize,
-    pub owners: Vec<u8>,
-    pub starts: Vec<u32>,
-    pub accesses: Vec<u32>,
-}
-
-/// Three accesses of four are to an object of the task's own, the rest to any; one in three writes.
-fn script(random: &mut Random, tasks: usize, objects: usize, count: usize) -> Script {
-    let owners = (0..objects).map(|i| (i % tasks) as u8).collect();
-    let starts = random.words(objects);
-    let mut accesses = Vec::new();
-    for _ in 0..count {
-        let task = random.below(tasks);
-        let any = random.below(objects);
-        let own = (any / tasks * tasks + task) % objects;
-        let object = random.mostly(4, own, any);
-        let write = random.once_in(3);
-        accesses.extend([task as u32, object as u32, write.into(), random.word()]);
-    }
-    Script {
-        tasks,
-        owners,
-        starts,
-        accesses,
-    }
-}
+/// Room for any access: an ordering for each of 16 tasks, and a write.
+const ACCESS_BYTES: usize = 138;
 
 /// A recording, and what its sections are packed from: task t's log ends in `logs` at `ends[t]`.
 struct Recording {
@@ -118,11 +93,14 @@ fn row(work: &str, unit: &str, scale: f64, times: &[f64], other: &str) {
     }
 }
 
+/// Accesses that are all accepted. With one object the tasks take it from each other, and seven accesses of eight write orderings
+/// (rows 5 to 10); with 140 or 256 objects it is three of eight.
 fn access_row(random: &mut Random, tasks: usize, objects: usize) {
     let count = 4000;
-    let script = script(random, tasks, objects, count);
+    let script = random.script(tasks, objects, count);
     let mut memory = vec![0; objects];
-    let mut out = vec![0; 8 + 5 * objects];
+    // The head of one object is shorter than an access with its orderings, and a refused access would be timed.
+    let mut out = vec![0; (8 + 5 * objects).max(ACCESS_BYTES)];
     let (mut memory_2, mut out_2) = (memory.clone(), out.clone());
     let (mut memory_3, mut out_3) = (memory.clone(), out.clone());
     let times = best([
@@ -139,7 +117,7 @@ fn access_row(random: &mut Random, tasks: usize, objects: usize) {
 fn recording_rows(random: &mut Random, limit: usize, count: usize) {
     let objects = 140;
     let recordings: Vec<Recording> = (0..count)
-        .map(|_| record(&script(random, 9, objects, limit / 3), limit))
+        .map(|_| record(&random.script(9, objects, limit / 3), limit))
         .collect();
     let size = recordings.iter().map(|r| r.bytes.len()).sum::<usize>() / count;
     let states: Vec<ours::State> = recordings.iter().map(|r| ours::State::of(&r.state)).collect();

@@ -1,7 +1,7 @@
 //! The other side of the calls that do many at once: what `crates/timed/src/lib.rt` and `crates/linked/src/pack.rt` do, by `peer.rs`.
 
+use crate::inputs::Script;
 use crate::peer::{number, recorder, replayer};
-use crate::table::Script;
 
 // The digest as `crates/timed/specs/Digest.antt` has it.
 fn mixed(digest: u64, x: u64) -> u64 {
