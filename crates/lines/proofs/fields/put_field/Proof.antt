@@ -2,8 +2,8 @@ use mathlib.Core.Path.{sym}
 use native.Mathlib.Omega.{arith}
 use lib.Seq.{set-out}
 use borrow.Author.Needs.{needs}
-use Rattle.lines.proofs.words.put_field.Statement.{statement}
-use Rattle.lines.proofs.words.put_field.Tie as tie
+use Rattle.lines.proofs.fields.put_field.Statement.{statement}
+use Rattle.lines.proofs.fields.put_field.Tie as tie
 
 mul-out : tie.Need-mul-out
 mul-out c = search needs

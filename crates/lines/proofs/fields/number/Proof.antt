@@ -6,8 +6,8 @@ use lib.ListN.{length, drop}
 use Rattle.lines.specs.Number.{digitsOn, numberOf}
 use Rattle.lines.specs.Laws.Number.{number-empty, number-some, digits-next, digits-end}
 use borrow.Author.Needs.{needs}
-use Rattle.lines.proofs.words.number.Statement.{statement}
-use Rattle.lines.proofs.words.number.Tie as tie
+use Rattle.lines.proofs.fields.number.Statement.{statement}
+use Rattle.lines.proofs.fields.number.Tie as tie
 
 abbrev Inv-loop : tie.InvT-loop
 Inv-loop word value₀ i₀ i-end value i = (i ≤ length word) × (value ≤ 4294967296) × (digitsOn value (drop i word) ≡ numberOf word)

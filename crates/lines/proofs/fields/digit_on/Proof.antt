@@ -2,8 +2,8 @@ use mathlib.Core.Path.{sym}
 use native.Mathlib.Omega.{arith}
 use Rattle.lines.specs.Laws.Number.{digit-low, digit-high, digit-some}
 use borrow.Author.Needs.{needs}
-use Rattle.lines.proofs.words.digit_on.Statement.{statement}
-use Rattle.lines.proofs.words.digit_on.Tie as tie
+use Rattle.lines.proofs.fields.digit_on.Statement.{statement}
+use Rattle.lines.proofs.fields.digit_on.Tie as tie
 
 returns : tie.Need-returns
 returns c = let e = digit-low (c .before .args .value) (c .before .args .byte) (c .if1 .taken) in (sym e, omega arith)

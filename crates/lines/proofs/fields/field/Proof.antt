@@ -3,8 +3,8 @@ use native.Mathlib.Omega.{arith}
 use denote.Ref.{now}
 use Rattle.lines.specs.Laws.Fields.{field-read, field-write, field-number}
 use borrow.Author.Needs.{needs}
-use Rattle.lines.proofs.words.field.Statement.{statement}
-use Rattle.lines.proofs.words.field.Tie as tie
+use Rattle.lines.proofs.fields.field.Statement.{statement}
+use Rattle.lines.proofs.fields.field.Tie as tie
 
 number-requires : tie.Need-number-requires
 number-requires c κs = search needs
