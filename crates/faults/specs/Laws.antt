@@ -1,0 +1,3 @@
+pub mod FaultTextCode
+pub mod ReadingCode
+pub mod StopCode

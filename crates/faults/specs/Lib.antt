@@ -1,0 +1,6 @@
+pub mod Expected
+pub mod FaultText
+pub mod Kind
+pub mod Stop
+pub mod Reading
+pub mod Laws
