@@ -1,3 +1,4 @@
 pub mod FaultTextCode
 pub mod ReadingCode
 pub mod StopCode
+pub mod Whole

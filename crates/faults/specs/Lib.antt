@@ -3,4 +3,5 @@ pub mod FaultText
 pub mod Kind
 pub mod Stop
 pub mod Reading
+pub mod Whole
 pub mod Laws
