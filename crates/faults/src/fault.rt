@@ -3,10 +3,12 @@ ghost use mathlib.Core.List.{_++_};
 ghost use Prim.Native.Nat.{_+_, _≤_};
 ghost use lib.ListN.{length};
 ghost use Rattle.text.specs.Appended.{Appended};
-ghost use Rattle.faults.specs.FaultText.{nameOf, foundLineEnd, wrongText, countText, endText, lineText, missingName, missingText, faultText};
+ghost use Rattle.faults.specs.FaultText.{nameOf, foundLineEnd, wrongText, countText, endText, lineText, missingText, faultText};
 use crate::expected::Expected;
 use crate::kind::Kind;
 use crate::kind::first;
+use crate::name::missing_name;
+use crate::name::name_of;
 use crate::name::put_name;
 use crate::reading::objects_of;
 use crate::reading::place_of;
@@ -24,7 +26,7 @@ fn put_wrong(out: &mut [u8], at: usize, e: Expected, word: &[u8]) -> usize
     ensures { λ r. ⌜ Appended (wrongText e (now (word .entry))) (now (out .entry)) at (now (out .exit)) r ⌝ }
     ensures { λ r. ⌜ r ≤ at + 53 ⌝ }
 {
-    let name = put_name(out, at, e);
+    let name = put_name(out, at, name_of(e));
     let found = put_bytes(out, name, b", found ");
     let shown = put_shown(out, found, word);
     put_byte(out, shown, b'\n')
@@ -46,7 +48,7 @@ fn put_line_end(out: &mut [u8], at: usize, e: Expected) -> usize
     ensures { λ r. ⌜ Appended (nameOf e ++ foundLineEnd) (now (out .entry)) at (now (out .exit)) r ⌝ }
     ensures { λ r. ⌜ r ≤ at + 49 ⌝ }
 {
-    let name = put_name(out, at, e);
+    let name = put_name(out, at, name_of(e));
     put_bytes(out, name, b", found the end of the line\n")
 }
 
@@ -82,26 +84,13 @@ fn put_line(out: &mut [u8], at: usize, kind: Kind, n: usize, line: &[u8]) -> usi
     put_wrong(out, at, e, &bare[from..to])
 }
 
-fn put_missing_name(out: &mut [u8], at: usize, kind: Kind) -> usize
-    requires { ⌜ at + 19 ≤ length (now out) ⌝ }
-    ensures { λ r. ⌜ Appended (missingName kind) (now (out .entry)) at (now (out .exit)) r ⌝ }
-    ensures { λ r. ⌜ r ≤ at + 19 ⌝ }
-{
-    match kind {
-        Kind::Sizes => put_bytes(out, at, b"the number of tasks"),
-        Kind::Owners => put_bytes(out, at, b"the owners"),
-        Kind::Starts => put_bytes(out, at, b"the starting values"),
-        Kind::Access => put_bytes(out, at, b"a task number"),
-    }
-}
-
 // The text ends where such a line was expected.
 fn put_missing(out: &mut [u8], at: usize, kind: Kind) -> usize
-    requires { ⌜ at + 47 ≤ length (now out) ⌝ }
+    requires { ⌜ at + 49 ≤ length (now out) ⌝ }
     ensures { λ r. ⌜ Appended (missingText kind) (now (out .entry)) at (now (out .exit)) r ⌝ }
-    ensures { λ r. ⌜ r ≤ at + 47 ⌝ }
+    ensures { λ r. ⌜ r ≤ at + 49 ⌝ }
 {
-    let name = put_missing_name(out, at, kind);
+    let name = put_name(out, at, missing_name(kind));
     put_bytes(out, name, b", found the end of the text\n")
 }
 

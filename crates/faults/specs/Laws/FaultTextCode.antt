@@ -20,6 +20,12 @@ use Rattle.faults.specs.Kind.{firstOf}
 use Rattle.faults.specs.Reading.{readingOf, Stands, objectsOf}
 use Rattle.faults.specs.Stop.{Stop, stopOf, Stops}
 
+-- a name stands in front of such bytes
+pub record Named (name : List ℕ) (size : ℕ) (bytes : List ℕ) : Type 0 where
+  pub front : take size bytes ≡ name
+  pub low : size ≤ 21
+  pub long : length bytes ≡ 21
+
 -- a word's bytes, one after another
 map-more : (f : ℕ → ℕ) (w : List ℕ) (i : ℕ) → i < length w → map f (take (suc i) w) ≡ map f (take i w) ++ (f (getD w i 0) ∷ [])
 map-more f [] i h = absurd (let z : ⊥ = omega arith in z)

@@ -1,13 +1,23 @@
 -- A message as the code puts it into a buffer.
 use mathlib.Core.Path.{_≡_}
 use mathlib.Core.List.{List}
-use Prim.Native.Nat.{ℕ}
+use Prim.Native.Nat.{ℕ, _+_, _≤_}
+use native.Mathlib.Omega.{arith}
 use borrow.Author.Tests.{eq-eqb, ne-eqb}
+use lib.ListN.{length}
 use Rattle.text.specs.Appended.{Appended}
 use Rattle.text.specs.Laws.Appended.{nothing, joined}
 use Rattle.faults.specs.FaultText.{faultText}
 use Rattle.text.specs.Decimal.{decimalOf, fieldOf}
+use Rattle.text.specs.Laws.Decimal.{decimal-short}
 use Rattle.script.specs.Message.{lineWord, expectedWord, refusedWord, reasonOf, messageOf}
+
+-- 20 bytes are room for any number
+pub number-room : (n at : ℕ) {room : ℕ} → at + 20 ≤ room → at + length (decimalOf n) ≤ room
+number-room n at h = omega (arith, decimal-short n)
+
+pub number-behind : (n : ℕ) {before after : List ℕ} {at end : ℕ} → Appended (decimalOf n) before at after end → end ≤ at + 20
+number-behind n x = omega (arith, decimal-short n, x .behind)
 
 pub message-none : (text : List ℕ) (line number : ℕ) (out : List ℕ) → line ≡ 0 → Appended (messageOf text line number) out 0 out 0
 unfolding messageOf

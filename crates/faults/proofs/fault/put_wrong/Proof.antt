@@ -5,6 +5,9 @@ use borrow.Author.Needs.{needs}
 use Rattle.faults.proofs.fault.put_wrong.Statement.{statement}
 use Rattle.faults.proofs.fault.put_wrong.Tie as tie
 
+name-of-requires : tie.Need-name-of-requires
+name-of-requires c κs = search needs
+
 put-name-requires : tie.Need-put-name-requires
 put-name-requires c κs = search needs
 
@@ -30,12 +33,13 @@ returns c =
     let f = c .before .before .before .before .before .before .before .before .before .before .put-bytes .ensures in
     let w = c .before .before .before .before .before .before .put-shown .ensures in
     let z = c .before .before .put-byte .ensures in
-    (joined (joined (joined (n .0) f) (w .0)) z, omega (arith, n .1, f .behind, w .1, z .behind))
+    (joined (joined (joined (rw (c .before .before .before .before .before .before .before .before .before .before .before .before .before .before .before .before .name-of .ensures .front) at (n .0)) f) (w .0)) z, omega (arith, n .1, f .behind, w .1, z .behind))
 
 pub put-wrong-spec : {M : Type 1} → statement M
 put-wrong-spec =
     tie.close
     (tie.spec
+    name-of-requires
     put-name-requires
     slice-aggregate-put-bytes
     put-bytes-requires
