@@ -1,60 +1,21 @@
 -- What is told of a fault, behind `line 7: expected `.
-use mathlib.Core.Bool.{cond, _&&_}
-use mathlib.Core.List.{List, [], _∷_, _++_, map}
+use mathlib.Core.Bool.{cond}
+use mathlib.Core.List.{List, [], _∷_, _++_}
 use Prim.Native.Nat.{ℕ}
-use lib.Dec.{eqb, ltb, leb}
-use lib.ListN.{length, take}
+use lib.Dec.{eqb}
+use lib.ListN.{length}
 use Rattle.lines.specs.Words.{wordsOf}
 use Rattle.text.specs.Decimal.{decimalOf, fieldOf}
 use Rattle.faults.specs.declared.expected.Expected.{Expected}
-use Rattle.faults.specs.declared.expected.Expected.the-variants.{Tasks, Objects, Owner, Start, Task, Letter, ReadObject, WriteObject, Value, End}
 use Rattle.faults.specs.declared.kind.Kind.{Kind}
 use Rattle.faults.specs.declared.kind.Kind.the-variants.{Sizes, Owners, Starts, Access}
 use Rattle.faults.specs.Kind.{firstOf}
+use Rattle.faults.specs.Name.{nameOf, missingName}
 use Rattle.faults.specs.Reading.{Reading, readingOf, objectsOf}
+use Rattle.faults.specs.Shown.{shownOf}
 use Rattle.faults.specs.Stop.{Stop, stopOf}
 
--- `the number of tasks`, `the number of objects`, `an owner`, `a starting value`, `a task number`, `R or W`, `an object number`, `a value`, `the end of the line`
-abbrev pub tasksWord : List ℕ
-tasksWord = 116 ∷ 104 ∷ 101 ∷ 32 ∷ 110 ∷ 117 ∷ 109 ∷ 98 ∷ 101 ∷ 114 ∷ 32 ∷ 111 ∷ 102 ∷ 32 ∷ 116 ∷ 97 ∷ 115 ∷ 107 ∷ 115 ∷ []
-
-abbrev pub objectsWord : List ℕ
-objectsWord = 116 ∷ 104 ∷ 101 ∷ 32 ∷ 110 ∷ 117 ∷ 109 ∷ 98 ∷ 101 ∷ 114 ∷ 32 ∷ 111 ∷ 102 ∷ 32 ∷ 111 ∷ 98 ∷ 106 ∷ 101 ∷ 99 ∷ 116 ∷ 115 ∷ []
-
-abbrev pub ownerWord : List ℕ
-ownerWord = 97 ∷ 110 ∷ 32 ∷ 111 ∷ 119 ∷ 110 ∷ 101 ∷ 114 ∷ []
-
-abbrev pub startWord : List ℕ
-startWord = 97 ∷ 32 ∷ 115 ∷ 116 ∷ 97 ∷ 114 ∷ 116 ∷ 105 ∷ 110 ∷ 103 ∷ 32 ∷ 118 ∷ 97 ∷ 108 ∷ 117 ∷ 101 ∷ []
-
-abbrev pub taskWord : List ℕ
-taskWord = 97 ∷ 32 ∷ 116 ∷ 97 ∷ 115 ∷ 107 ∷ 32 ∷ 110 ∷ 117 ∷ 109 ∷ 98 ∷ 101 ∷ 114 ∷ []
-
-abbrev pub letterWord : List ℕ
-letterWord = 82 ∷ 32 ∷ 111 ∷ 114 ∷ 32 ∷ 87 ∷ []
-
-abbrev pub objectWord : List ℕ
-objectWord = 97 ∷ 110 ∷ 32 ∷ 111 ∷ 98 ∷ 106 ∷ 101 ∷ 99 ∷ 116 ∷ 32 ∷ 110 ∷ 117 ∷ 109 ∷ 98 ∷ 101 ∷ 114 ∷ []
-
-abbrev pub valueWord : List ℕ
-valueWord = 97 ∷ 32 ∷ 118 ∷ 97 ∷ 108 ∷ 117 ∷ 101 ∷ []
-
-abbrev pub lineEnd : List ℕ
-lineEnd = 116 ∷ 104 ∷ 101 ∷ 32 ∷ 101 ∷ 110 ∷ 100 ∷ 32 ∷ 111 ∷ 102 ∷ 32 ∷ 116 ∷ 104 ∷ 101 ∷ 32 ∷ 108 ∷ 105 ∷ 110 ∷ 101 ∷ []
-
-abbrev pub nameOf : Expected → List ℕ
-nameOf Tasks = tasksWord
-nameOf Objects = objectsWord
-nameOf Owner = ownerWord
-nameOf Start = startWord
-nameOf Task = taskWord
-nameOf Letter = letterWord
-nameOf ReadObject = objectWord
-nameOf WriteObject = objectWord
-nameOf Value = valueWord
-nameOf End = lineEnd
-
--- `, found `; the same with `the end of the line` and with `the end of the text`, and a newline; `...`
+-- `, found `; the same with `the end of the line` and with `the end of the text`, and a newline
 abbrev pub foundWord : List ℕ
 foundWord = 44 ∷ 32 ∷ 102 ∷ 111 ∷ 117 ∷ 110 ∷ 100 ∷ 32 ∷ []
 
@@ -63,16 +24,6 @@ foundLineEnd = 44 ∷ 32 ∷ 102 ∷ 111 ∷ 117 ∷ 110 ∷ 100 ∷ 32 ∷ 116 
 
 abbrev pub foundTextEnd : List ℕ
 foundTextEnd = 44 ∷ 32 ∷ 102 ∷ 111 ∷ 117 ∷ 110 ∷ 100 ∷ 32 ∷ 116 ∷ 104 ∷ 101 ∷ 32 ∷ 101 ∷ 110 ∷ 100 ∷ 32 ∷ 111 ∷ 102 ∷ 32 ∷ 116 ∷ 104 ∷ 101 ∷ 32 ∷ 116 ∷ 101 ∷ 120 ∷ 116 ∷ 10 ∷ []
-
-abbrev pub dotsWord : List ℕ
-dotsWord = 46 ∷ 46 ∷ 46 ∷ []
-
--- a word as it is shown: a byte that is no visible character as ?, and no more than 20 bytes
-unfoldable pub shownByte : ℕ → ℕ
-shownByte b = cond (leb 33 b && leb b 126) b 63
-
-unfoldable pub shownOf : List ℕ → List ℕ
-shownOf w = cond (leb (length w) 20) (map shownByte w) (map shownByte (take 20 w) ++ dotsWord)
 
 -- this word stands where another was expected
 unfoldable pub wrongText : Expected → List ℕ → List ℕ
@@ -100,20 +51,7 @@ endText Access n e k = nameOf e ++ foundLineEnd
 unfoldable pub stopText : Kind → ℕ → Stop → List ℕ
 stopText kind n s = cond (eqb (length (s .word)) 0) (endText kind n (s .expected) (s .words)) (wrongText (s .expected) (s .word))
 
--- `the owners`, `the starting values`
-abbrev pub ownersWord : List ℕ
-ownersWord = 116 ∷ 104 ∷ 101 ∷ 32 ∷ 111 ∷ 119 ∷ 110 ∷ 101 ∷ 114 ∷ 115 ∷ []
-
-abbrev pub startsWord : List ℕ
-startsWord = 116 ∷ 104 ∷ 101 ∷ 32 ∷ 115 ∷ 116 ∷ 97 ∷ 114 ∷ 116 ∷ 105 ∷ 110 ∷ 103 ∷ 32 ∷ 118 ∷ 97 ∷ 108 ∷ 117 ∷ 101 ∷ 115 ∷ []
-
 -- the text ends where such a line was expected
-abbrev pub missingName : Kind → List ℕ
-missingName Sizes = tasksWord
-missingName Owners = ownersWord
-missingName Starts = startsWord
-missingName Access = taskWord
-
 abbrev pub missingText : Kind → List ℕ
 missingText kind = missingName kind ++ foundTextEnd
 

@@ -4,7 +4,7 @@ ghost use mathlib.Core.Path.{_≡_};
 ghost use Prim.Native.Nat.{_+_, _≤_};
 ghost use lib.ListN.{length};
 ghost use Rattle.text.specs.Appended.{Appended};
-ghost use Rattle.faults.specs.FaultText.{shownByte, shownOf};
+ghost use Rattle.faults.specs.Shown.{shownByte, shownOf};
 use text::put_bytes;
 
 // A byte that is no visible character is shown as ?.

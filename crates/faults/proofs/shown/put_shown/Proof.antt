@@ -4,8 +4,8 @@ use denote.Ref.{now}
 use lib.ListN.{take, length-map}
 use lib.Seq.{length-take-le}
 use Rattle.text.specs.Laws.Appended.{same-room}
-use Rattle.faults.specs.FaultText.{shownByte}
-use Rattle.faults.specs.Laws.FaultTextCode.{shown-whole, shown-cut}
+use Rattle.faults.specs.Shown.{shownByte}
+use Rattle.faults.specs.Laws.ShownCode.{shown-whole, shown-cut}
 use borrow.Author.Needs.{needs}
 use Rattle.faults.proofs.shown.put_shown.Statement.{statement}
 use Rattle.faults.proofs.shown.put_shown.Tie as tie

@@ -4,8 +4,8 @@ use Prim.Native.Nat.{_≤_, _+_, _-_}
 use native.Mathlib.Omega.{arith}
 use lib.ListN.{length, take, length-set}
 use Rattle.text.specs.Appended.{Appended}
-use Rattle.faults.specs.FaultText.{shownByte}
-use Rattle.faults.specs.Laws.FaultTextCode.{shown-none, shown-more, shown-all}
+use Rattle.faults.specs.Shown.{shownByte}
+use Rattle.faults.specs.Laws.ShownCode.{shown-none, shown-more, shown-all}
 use borrow.Author.Needs.{needs}
 use Rattle.faults.proofs.shown.put_shown_bytes.Statement.{statement}
 use Rattle.faults.proofs.shown.put_shown_bytes.Tie as tie

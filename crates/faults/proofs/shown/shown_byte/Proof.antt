@@ -1,5 +1,5 @@
 use borrow.Author.Tests.{le-leb, lt-leb}
-use Rattle.faults.specs.FaultText.{shownByte}
+use Rattle.faults.specs.Shown.{shownByte}
 use Rattle.faults.proofs.shown.shown_byte.Statement.{statement}
 use Rattle.faults.proofs.shown.shown_byte.Tie as tie
 
