@@ -5,4 +5,4 @@ pub mod Found
 pub mod Lines
 pub mod Number
 pub mod RowCode
-pub mod Words
+pub mod WordsCode

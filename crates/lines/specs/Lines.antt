@@ -1,5 +1,4 @@
--- The lines of a text, each ended by a newline, which the last may lack. Empty lines and lines that begin with # are passed over,
--- and counted.
+-- The lines of a text, each ended by a newline, which the last may lack. Lines without a word are passed over, and counted.
 use mathlib.Core.Path.{_≡_}
 use mathlib.Core.Bool.{Bool, true, false, cond}
 use mathlib.Core.List.{List, [], _∷_}
@@ -7,15 +6,14 @@ use Prim.Native.Nat.{ℕ, _+_, _-_, _≤_}
 use lib.Dec.{eqb}
 use lib.ListN.{length, take, drop}
 use Rattle.lines.specs.declared.Found.{Found}
-use Rattle.lines.specs.Words.{front}
+use Rattle.lines.specs.Words.{front, wordsOf}
 
 unfoldable pub linesOf : List ℕ → List (List ℕ)
 linesOf [] = []
 linesOf (b ∷ bs) = cond (eqb b 10) ([] ∷ linesOf bs) (front b (linesOf bs))
 
-unfoldable pub isPassed : List ℕ → Bool
-isPassed [] = true
-isPassed (b ∷ bs) = eqb b 35
+abbrev pub isPassed : List ℕ → Bool
+isPassed line = eqb (length (wordsOf line)) 0
 
 pub record Line : Type 0 where
   pub number : ℕ

@@ -4,10 +4,10 @@ ghost use Prim.Native.Nat.{_≤_};
 ghost use lib.ListN.{length};
 ghost use Rattle.lines.specs.Asked.{malformedLine, askedBy, askedOf};
 ghost use Rattle.lines.specs.Fields.{fieldsOf};
-use crate::words::NONE;
-use crate::words::READ;
-use crate::words::WRITE;
-use crate::words::fields;
+use crate::fields::NONE;
+use crate::fields::READ;
+use crate::fields::WRITE;
+use crate::fields::fields;
 
 // An access as a line asks for it; not good where the line is malformed.
 pub struct Asked {

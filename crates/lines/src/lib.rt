@@ -3,20 +3,22 @@ ghost use mathlib.Core.Path.{_≡_};
 ghost use Prim.Native.Nat.{_+_, _≤_};
 ghost use lib.ListN.{length};
 ghost use Rattle.lines.specs.Lines.{isPassed, NextLine};
+use crate::words::bare_end;
+use crate::words::next_word;
 use bytes::scan::find;
 
 pub mod asked;
+pub mod fields;
 pub mod rows;
-mod words;
+pub mod words;
 
-// Empty lines and remarks are passed over.
+// Lines without a word are passed over.
 fn is_passed(line: &[u8]) -> bool
     ensures { λ r. ⌜ r ≡ isPassed (now (line .entry)) ⌝ }
 {
-    if line.len() == 0 {
-        return true;
-    }
-    line[0] == b'#'
+    let end = bare_end(line);
+    let w = next_word(&line[..end], 0);
+    w.from == w.to
 }
 
 // A line that is not passed over: where it stands, and its number. Where there is none, the number is that of the line behind

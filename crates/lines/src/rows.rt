@@ -9,8 +9,8 @@ ghost use Rattle.reader.specs.Parse.{allBelow};
 ghost use Rattle.lines.specs.Fields.{fieldsOf};
 ghost use Rattle.lines.specs.Number.{none};
 ghost use Rattle.lines.specs.Rows.{isRow, sizesOf, ownerOf, ownersOf};
-use crate::words::NONE;
-use crate::words::fields;
+use crate::fields::NONE;
+use crate::fields::fields;
 use codec::limit::OBJECTS;
 
 // T and N as a line gives them; not good where the line is malformed.

@@ -1,88 +1,67 @@
-// Words and numbers of a line.
+// The words of a line.
+ghost use mathlib.Core.Bool.{cond, not};
 ghost use mathlib.Core.Path.{_≡_};
-ghost use Prim.Native.Nat.{_≤_};
-ghost use lib.ListN.{length, set};
-ghost use Rattle.codec.specs.Store.{store};
-ghost use Rattle.lines.specs.Number.{digitOn, numberOf};
-ghost use Rattle.lines.specs.Fields.{fieldOf, fieldsOf};
+ghost use Prim.Native.Nat.{_+_, _≤_};
+ghost use lib.ListN.{length, take, drop};
+ghost use Rattle.lines.specs.Words.{isBlank, bareOf, NextWord};
+ghost use Rattle.lines.specs.Laws.WordsCode.{runOf};
 use bytes::scan::find;
 
-// The fields that are no numbers. A number is below them.
-pub(crate) const NONE: u64 = 4294967296;
-
-pub(crate) const READ: u64 = 4294967297;
-
-pub(crate) const WRITE: u64 = 4294967298;
-
-// A number with one digit more behind it.
-fn digit_on(value: u64, byte: u8) -> u64
-    requires { ⌜ value ≤ 4294967296 ⌝ }
-    ensures { λ r. ⌜ r ≡ digitOn value byte ⌝ }
-    ensures { λ r. ⌜ r ≤ 4294967296 ⌝ }
+// Space, tab and carriage return.
+fn is_blank(byte: u8) -> bool
+    ensures { λ r. ⌜ r ≡ isBlank byte ⌝ }
 {
-    if byte < b'0' {
-        return NONE;
+    if byte == b' ' {
+        return true;
     }
-    if b'9' < byte {
-        return NONE;
+    if byte == b'\t' {
+        return true;
     }
-    let more = 10 * value + ((byte - b'0') as u64);
-    if NONE < more { NONE } else { more }
+    byte == b'\r'
 }
 
-// A word as a number.
-fn number(word: &[u8]) -> u64
-    ensures { λ r. ⌜ r ≡ numberOf (now (word .entry)) ⌝ }
+// Whether a byte belongs to a run of blanks, or of other bytes.
+fn in_run(byte: u8, blanks: bool) -> bool
+    ensures { λ r. ⌜ r ≡ cond blanks (isBlank byte) (not (isBlank byte)) ⌝ }
 {
-    if word.len() == 0 {
-        return NONE;
-    }
-    let mut value = 0;
-    for i in 0..word.len() {
-        value = digit_on(value, word[i]);
-    }
-    value
+    let blank = is_blank(byte);
+    if blanks { blank } else { !blank }
 }
 
-// A word: a number, R or W.
-fn field(word: &[u8]) -> u64
-    ensures { λ r. ⌜ r ≡ fieldOf (now (word .entry)) ⌝ }
+// Where the run that begins at a place ends.
+fn run_end(line: &[u8], at: usize, blanks: bool) -> usize
+    requires { ⌜ at ≤ length (now line) ⌝ }
+    ensures { λ r. ⌜ r ≡ at + runOf blanks (drop at (now (line .entry))) ⌝ }
 {
-    if word.len() != 1 {
-        return number(word);
+    let mut i = at;
+    while i < line.len() {
+        if !in_run(line[i], blanks) {
+            return i;
+        }
+        i += 1;
     }
-    let byte = word[0];
-    if byte == b'R' {
-        return READ;
-    }
-    if byte == b'W' {
-        return WRITE;
-    }
-    number(word)
+    i
 }
 
-// A field put at a place, where there is room.
-fn put_field(out: &mut [u64], at: usize, value: u64)
-    ensures { λ r. ⌜ now (out .exit) ≡ set (now (out .entry)) at value ⌝ }
-{
-    if at < out.len() {
-        out[at] = value;
-    }
+// Where a word stands; nowhere, at the line's end, where it has no bytes.
+pub struct Word {
+    pub from: usize,
+    pub to: usize,
 }
 
-// The fields of a line, as far as there is room for them. Answers how many the line has.
-pub(crate) fn fields(line: &[u8], out: &mut [u64]) -> usize
-    requires { ⌜ length (now line) ≤ 1048576 ⌝ }
-    ensures { λ r. ⌜ r ≡ length (fieldsOf (now (line .entry))) ⌝ }
-    ensures { λ r. ⌜ now (out .exit) ≡ store (now (out .entry)) 0 (fieldsOf (now (line .entry))) ⌝ }
+// The next word from a place on, of a line without its remark.
+pub fn next_word(line: &[u8], at: usize) -> Word
+    requires { ⌜ at ≤ length (now line) ⌝ }
+    ensures { λ r. ⌜ NextWord (now (line .entry)) at (r .from) (r .to) ⌝ }
 {
-    let mut count = 0;
-    let mut at = 0;
-    while at <= line.len() {
-        let end = find(line, at, line.len(), b' ');
-        put_field(out, count, field(&line[at..end]));
-        count += 1;
-        at = end + 1;
-    }
-    count
+    let from = run_end(line, at, true);
+    let to = run_end(line, from, false);
+    Word { from, to }
+}
+
+// Where a line's remark begins, or the line ends.
+pub fn bare_end(line: &[u8]) -> usize
+    ensures { λ r. ⌜ (r ≤ length (now (line .entry))) × (take r (now (line .entry)) ≡ bareOf (now (line .entry))) ⌝ }
+{
+    find(line, 0, line.len(), b'#')
 }

@@ -23,11 +23,11 @@ longest = 1048576
 unfoldable pub streamsOf : List ℕ → Streams
 streamsOf text =
     cond (ltb longest (length text)) (record { output = []; message = longWord })
-    (record { output = recordOf text .bytes; message = messageOf (recordOf text .line) (recordOf text .number) })
+    (record { output = recordOf text .bytes; message = messageOf text (recordOf text .line) (recordOf text .number) })
 
 -- every message has room in so many bytes
 abbrev pub messageRoom : ℕ
-messageRoom = 64
+messageRoom = 128
 
 -- nothing is answered where a lent buffer is shorter than an answer can be
 unfoldable pub answerOf : ℕ → ℕ → List ℕ → Streams

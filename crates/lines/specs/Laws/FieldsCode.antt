@@ -5,17 +5,20 @@ use Prim.Native.Nat.{ℕ, zero, suc, _+_, _-_, _<_, _≤_}
 use native.Mathlib.Omega.{arith}
 use lib.ListN.{length, take, drop, set, length-drop}
 use lib.Seq.{take-all, length-take-le}
-use Rattle.bytes.specs.Bytes.{indexOf}
 use Rattle.codec.specs.Store.{store}
 use Rattle.codec.specs.Laws.Store.{store-append}
-use Rattle.lines.specs.Fields.{fieldOf, fieldsOf}
-use Rattle.lines.specs.Laws.Words.{wordsFrom, next-word, words-all, words-end}
+use Rattle.lines.specs.Fields.{fieldOf}
+use Rattle.lines.specs.Words.{wordsIn, NextWord}
+
+-- the fields of a line without its remark
+abbrev pub fieldsIn : List ℕ → List ℕ
+fieldsIn line = map fieldOf (wordsIn line)
 
 -- so many fields are read, and the row holds them; the others stand from a place on
 pub record Reads (line row : List ℕ) (at count : ℕ) (now : List ℕ) : Type 0 where
-  pub within : count ≤ length (fieldsOf line)
-  pub held : now ≡ store row 0 (take count (fieldsOf line))
-  pub left : drop count (fieldsOf line) ≡ map fieldOf (wordsFrom at line)
+  pub within : count ≤ length (fieldsIn line)
+  pub held : now ≡ store row 0 (take count (fieldsIn line))
+  pub left : drop count (fieldsIn line) ≡ fieldsIn (drop at line)
 
 -- an element that stands at a place of a list
 cut : (n x : ℕ) (l r : List ℕ) → drop n l ≡ x ∷ r → (n < length l) × (take (n + 1) l ≡ take n l ++ (x ∷ [])) × (drop (n + 1) l ≡ r)
@@ -29,25 +32,24 @@ cut (suc n) x (y ∷ l) r h =
 
 pub reads-none : (line row : List ℕ) → Reads line row 0 0 row
 unfolding store
-reads-none line row = record { within = omega arith; held = refl; left = ap (map fieldOf) (sym (words-all line)) }
+reads-none line row = record { within = omega arith; held = refl; left = refl }
 
-pub reads-more : (line row : List ℕ) (at count : ℕ) (now : List ℕ) (end f : ℕ) → at ≤ length line → Reads line row at count now
-    → end ≡ at + indexOf 32 (drop at line) → f ≡ fieldOf (take (end - at) (drop at line)) → Reads line row (end + 1) (count + 1) (set now count f)
+pub reads-more : (line row : List ℕ) (at count : ℕ) (now : List ℕ) (from to f : ℕ) → Reads line row at count now → NextWord line at from to → (from ≡ to → ⊥)
+    → f ≡ fieldOf (take (to - from) (drop from line)) → Reads line row to (count + 1) (set now count f)
 unfolding store
-reads-more line row at count now end f h r e g =
-    let k : end - at ≡ indexOf 32 (drop at line) = omega arith in
-    let n : map fieldOf (wordsFrom at line) ≡ f ∷ map fieldOf (wordsFrom (end + 1) line) = rw (g, k, e, next-word at line h) in
-    let s = cut count f (fieldsOf line) (map fieldOf (wordsFrom (end + 1) line)) (r .left ∙ n) in
-    let z : count ≡ 0 + length (take count (fieldsOf line)) = omega (arith, length-take-le count (fieldsOf line) (r .within)) in
+reads-more line row at count now from to f r w h g =
+    let l : from < to = omega (arith, w .ordered) in
+    let s = cut count f (fieldsIn line) (fieldsIn (drop to line)) (r .left ∙ rw g (ap (map fieldOf) (w .found l))) in
+    let z : count ≡ 0 + length (take count (fieldsIn line)) = omega (arith, length-take-le count (fieldsIn line) (r .within)) in
     record {
       within = omega (arith, s .0);
-      held = rw (r .held, s .1) (ap (λ (i : ℕ). set (store row 0 (take count (fieldsOf line))) i f) z ∙ store-append row 0 (take count (fieldsOf line)) (f ∷ []));
+      held = rw (r .held, s .1) (ap (λ (i : ℕ). set (store row 0 (take count (fieldsIn line))) i f) z ∙ store-append row 0 (take count (fieldsIn line)) (f ∷ []));
       left = s .2;
     }
 
-pub reads-all : (line row : List ℕ) (at count : ℕ) (now : List ℕ) → length line < at → Reads line row at count now
-    → (count ≡ length (fieldsOf line)) × (now ≡ store row 0 (fieldsOf line))
-reads-all line row at count now h r =
-    let z : length (fieldsOf line) - count ≡ 0 = sym (length-drop count (fieldsOf line)) ∙ ap length (r .left ∙ ap (map fieldOf) (words-end at line h)) in
-    let e : count ≡ length (fieldsOf line) = omega (arith, r .within) in
-    (e, r .held ∙ ap (store row 0) (take-all count (fieldsOf line) (omega arith)))
+pub reads-all : (line row : List ℕ) (at count : ℕ) (now : List ℕ) → Reads line row at count now → wordsIn (drop at line) ≡ []
+    → (count ≡ length (fieldsIn line)) × (now ≡ store row 0 (fieldsIn line))
+reads-all line row at count now r n =
+    let z : length (fieldsIn line) - count ≡ 0 = sym (length-drop count (fieldsIn line)) ∙ ap length (r .left ∙ ap (map fieldOf) n) in
+    let e : count ≡ length (fieldsIn line) = omega (arith, r .within) in
+    (e, r .held ∙ ap (store row 0) (take-all count (fieldsIn line) (omega arith)))

@@ -52,16 +52,6 @@ pub next-bytes : (at : ℕ) (l : List ℕ) → at < length l
 next-bytes at l h =
     rw (← behind-from (at + indexOf 10 (drop at l)) l, ← drop-drop (indexOf 10 (drop at l)) at l) (first-line (drop at l) (rw length-drop (omega arith)))
 
-pub passed-empty : (l : List ℕ) → length l ≡ 0 → isPassed l ≡ true
-unfolding isPassed
-passed-empty [] h = refl
-passed-empty (b ∷ bs) h = absurd (let z : ⊥ = omega arith in z)
-
-pub passed-some : (l : List ℕ) → (length l ≡ 0 → ⊥) → isPassed l ≡ eqb (getD l 0 0) 35
-unfolding isPassed
-passed-some [] h = absurd (h refl)
-passed-some (b ∷ bs) h = refl
-
 -- the line at a place, with its end found
 module _ (text : List ℕ) (at n end : ℕ) (h : at < length text) (e : end ≡ at + indexOf 10 (drop at text)) where
   line-bytes : linesOf (drop at text) ≡ take (end - at) (drop at text) ∷ linesOf (drop (end + 1) text)

@@ -15,9 +15,9 @@ use Rattle.script.specs.Session.{most}
 use Rattle.programs.specs.WholeRecording.{WholeRecording}
 use Rattle.programs.specs.Laws.WholeText.{whole-text}
 
-message-none : (line number : ℕ) → messageOf line number ≡ [] → line ≡ 0
+message-none : (text : List ℕ) (line number : ℕ) → messageOf text line number ≡ [] → line ≡ 0
 unfolding messageOf
-message-none line number e = elim (split (eqb line 0)) [
+message-none text line number e = elim (split (eqb line 0)) [
   | passes p ↦ eqb-true line 0 p
   | fails p ↦ let f = rw p at e in let z : _≡_ {A = ℕ} 0 1 = cc f in absurd (let y : ⊥ = omega arith in y)
 ]
@@ -26,7 +26,7 @@ streams-whole : (text : List ℕ) → streamsOf text .message ≡ [] → WholeRe
 unfolding streamsOf
 streams-whole text e = elim (split (ltb longest (length text))) [
   | passes p ↦ let f : longWord ≡ [] = rw p at e in let z : _≡_ {A = ℕ} 0 1 = cc in absurd (let y : ⊥ = omega arith in y)
-  | fails p ↦ rw p (whole-text text (message-none (recordOf text .line) (recordOf text .number) (rw p at e)))
+  | fails p ↦ rw p (whole-text text (message-none text (recordOf text .line) (recordOf text .number) (rw p at e)))
 ]
 
 pub whole-answer : (out message : ℕ) (text : List ℕ) → most ≤ out → messageRoom ≤ message → answerOf out message text .message ≡ []

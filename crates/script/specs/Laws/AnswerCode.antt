@@ -37,7 +37,7 @@ module _ (text out message : List ℕ) where
     })
 
     pub answer-so : (room : ℕ) → room ≡ most → (r : Recorded) (part : List ℕ) → length text ≤ longest → Records (recordOf text) r (take room out) part
-        → Appended (messageOf (r .line) (r .number)) message 0 after told
+        → Appended (messageOf text (r .line) (r .number)) message 0 after told
         → Answers (answerOf (length out) (length message) text) (record { written = r .written; told = told }) out (part ++ drop room out) message after
     unfolding answerOf streamsOf
     answer-so room e r part i x a =

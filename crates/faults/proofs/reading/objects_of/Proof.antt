@@ -1,0 +1,39 @@
+use mathlib.Core.Path.{ap}
+use borrow.Author.Tests.{not-true, not-false}
+use Rattle.faults.specs.Laws.ReadingCode.{objects-none, objects-some}
+use borrow.Author.Needs.{needs}
+use Rattle.faults.proofs.reading.objects_of.Statement.{statement}
+use Rattle.faults.proofs.reading.objects_of.Tie as tie
+
+next-line-requires : tie.Need-next-line-requires
+next-line-requires c κs = search needs
+
+returns : tie.Need-returns
+returns c = objects-none _ (c .before .before .next-line .ensures .none (not-true _ (c .if1 .taken)))
+
+sub-sizes-of : tie.Need-sub-sizes-of
+sub-sizes-of c = search needs
+
+part-sizes-of-start : tie.Need-part-sizes-of-start
+part-sizes-of-start c = search needs
+
+part-sizes-of-end : tie.Need-part-sizes-of-end
+part-sizes-of-end c = search needs
+
+sizes-of-requires : tie.Need-sizes-of-requires
+sizes-of-requires c κs = search needs
+
+returns-2 : tie.Need-returns-2
+returns-2 c = objects-some _ _ _ _ (ap (λ z. z .objects) (c .sizes-of .ensures)) (c .before .before .before .before .next-line .ensures .found (not-false _ (c .before .before .if1 .left)))
+
+pub objects-of-spec : {M : Type 1} → statement M
+objects-of-spec =
+    tie.close
+    (tie.spec
+    next-line-requires
+    returns
+    sub-sizes-of
+    part-sizes-of-start
+    part-sizes-of-end
+    sizes-of-requires
+    returns-2)

@@ -1,0 +1,6 @@
+pub mod FaultTextCode
+pub mod NameCode
+pub mod ReadingCode
+pub mod ShownCode
+pub mod StopCode
+pub mod Whole

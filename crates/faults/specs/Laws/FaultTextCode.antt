@@ -1,0 +1,55 @@
+-- The text of a fault as the code puts it into a buffer.
+use mathlib.Core.Path.{_≡_, ap, _∙_, sym}
+use mathlib.Core.Bool.{true, false}
+use mathlib.Core.List.{List}
+use Prim.Native.Nat.{ℕ, _-_}
+use native.Mathlib.Omega.{arith}
+use borrow.Author.Tests.{eq-eqb, ne-eqb}
+use lib.ListN.{length, take, drop, length-drop}
+use lib.Seq.{length-take-le}
+use Rattle.lines.specs.Words.{bareOf, wordsIn}
+use Rattle.text.specs.Appended.{Appended}
+use Rattle.faults.specs.declared.expected.Expected.{Expected}
+use Rattle.faults.specs.declared.kind.Kind.{Kind}
+use Rattle.faults.specs.declared.reading.Place.{Place}
+use Rattle.faults.specs.declared.stop.Stopped.{Stopped}
+use Rattle.faults.specs.FaultText.{wrongText, endText, stopText, missingText, lineText, readingText, faultText}
+use Rattle.faults.specs.Kind.{firstOf}
+use Rattle.faults.specs.Reading.{readingOf, Stands, objectsOf}
+use Rattle.faults.specs.Stop.{Stop, stopOf, Stops}
+
+-- a line whose reading stopped, at its end or at a word
+module _ (kind : Kind) (n : ℕ) (line : List ℕ) (e : Expected) (size : ℕ) (f : e ≡ firstOf kind) (b : take size line ≡ bareOf line)
+    (r : Stopped) (x : Stops (stopOf e 0 (wordsIn (take size line))) (take size line) r) where
+  stop : Stop
+  stop = stopOf e 0 (wordsIn (take size line))
+
+  line-stop : stopText kind n stop ≡ lineText kind n line
+  unfolding stop
+  line-stop = rw (f, b)
+
+  stop-length : length (stop .word) ≡ r .to - r .from
+  unfolding stop
+  stop-length =
+      let l = take size line in
+      sym (ap length (x .word)) ∙ length-take-le (r .to - r .from) (drop (r .from) l) (omega (arith, length-drop (r .from) l, x .within))
+
+  pub line-ended : {out after : List ℕ} {at end : ℕ} → r .from ≡ r .to → Appended (endText kind n (r .expected) (r .words)) out at after end → Appended (lineText kind n line) out at after end
+  unfolding stopText stop
+  line-ended h a = rw (← line-stop, eq-eqb (length (stop .word)) 0 (omega (arith, stop-length)), ← x .expected, ← x .words) a
+
+  pub line-wrong : {out after : List ℕ} {at end : ℕ} → (r .from ≡ r .to → ⊥) → Appended (wrongText (r .expected) (take (r .to - r .from) (drop (r .from) (take size line)))) out at after end
+      → Appended (lineText kind n line) out at after end
+  unfolding stopText stop
+  line-wrong h a = rw (← line-stop, ne-eqb (length (stop .word)) 0 (λ z. omega (arith, stop-length, x .ordered)), ← x .expected, ← x .word) a
+
+-- the line that is there, and the one that is missing
+module _ (text : List ℕ) (line : ℕ) (p : Place) (x : Stands (readingOf text line) text p) where
+  pub fault-missing : {out after : List ℕ} {at end : ℕ} → p .there ≡ false → Appended (missingText (p .kind)) out at after end → Appended (faultText text line) out at after end
+  unfolding readingText
+  fault-missing h a = rw (← x .there, h, ← x .kind) a
+
+  pub fault-there : {out after : List ℕ} {at end : ℕ} (n : ℕ) → n ≡ objectsOf text → p .there ≡ true
+      → Appended (lineText (p .kind) n (take (p .to - p .from) (drop (p .from) text))) out at after end → Appended (faultText text line) out at after end
+  unfolding readingText
+  fault-there n e h a = rw (← x .there, h, ← x .kind, ← x .bytes, ← e) a

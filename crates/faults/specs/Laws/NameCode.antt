@@ -1,0 +1,10 @@
+-- A name as the code has it, with blanks behind it.
+use mathlib.Core.Path.{_≡_}
+use mathlib.Core.List.{List}
+use Prim.Native.Nat.{ℕ, _≤_}
+use lib.ListN.{length, take}
+
+pub record Named (name : List ℕ) (size : ℕ) (bytes : List ℕ) : Type 0 where
+  pub front : take size bytes ≡ name
+  pub low : size ≤ 21
+  pub long : length bytes ≡ 21

@@ -1,0 +1,9 @@
+pub mod Expected
+pub mod FaultText
+pub mod Kind
+pub mod Name
+pub mod Reading
+pub mod Shown
+pub mod Stop
+pub mod Whole
+pub mod Laws

@@ -1,0 +1,43 @@
+-- As what the line of a number is read: the lines that are not passed over are T and N, the owners, the starting values, and accesses.
+use mathlib.Core.Path.{_≡_}
+use mathlib.Core.Bool.{Bool, true, false, cond}
+use mathlib.Core.List.{List, [], _∷_}
+use Prim.Native.Nat.{ℕ, _-_, _≤_}
+use lib.Dec.{eqb}
+use lib.ListN.{length, take, drop}
+use Rattle.lines.specs.Lines.{Line, linesOf, numbered}
+use Rattle.lines.specs.Fields.{fieldsOf}
+use Rattle.lines.specs.Rows.{sizesOf}
+use Rattle.faults.specs.declared.kind.Kind.{Kind}
+use Rattle.faults.specs.declared.kind.Kind.the-variants.{Sizes}
+use Rattle.faults.specs.declared.reading.Place.{Place}
+use Rattle.faults.specs.Kind.{kindAfter}
+
+-- what it is, whether it is there, and its bytes
+pub record Reading : Type 0 where
+  pub kind : Kind
+  pub there : Bool
+  pub bytes : List ℕ
+
+unfoldable pub readingIn : ℕ → Kind → List Line → Reading
+readingIn line k [] = record { kind = k; there = false; bytes = [] }
+readingIn line k (l ∷ ls) = cond (eqb (l .number) line) (record { kind = k; there = true; bytes = l .bytes }) (readingIn line (kindAfter k) ls)
+
+abbrev pub readingOf : List ℕ → ℕ → Reading
+readingOf text line = readingIn line Sizes (numbered 1 (linesOf text))
+
+-- where it stands in the text
+pub record Stands (d : Reading) (text : List ℕ) (r : Place) : Type 0 where
+  pub kind : r .kind ≡ d .kind
+  pub there : r .there ≡ d .there
+  pub bytes : take (r .to - r .from) (drop (r .from) text) ≡ d .bytes
+  pub ordered : r .from ≤ r .to
+  pub within : r .to ≤ length text
+
+-- N, as the first line gives it
+unfoldable pub objectsIn : List Line → ℕ
+objectsIn [] = 0
+objectsIn (l ∷ ls) = sizesOf (fieldsOf (l .bytes)) .objects
+
+abbrev pub objectsOf : List ℕ → ℕ
+objectsOf text = objectsIn (numbered 1 (linesOf text))

@@ -1,0 +1,93 @@
+// What the next word of a line is to be.
+ghost use mathlib.Core.Path.{_≡_};
+ghost use Rattle.faults.specs.Expected.{formOf, isLetter, hasForm, behindOf, nextOf};
+use lines::fields::NONE;
+use lines::fields::READ;
+use lines::fields::WRITE;
+
+// The object of a read ends its line, and that of a write has a value behind it.
+pub enum Expected {
+    Tasks,
+    Objects,
+    Owner,
+    Start,
+    Task,
+    Letter,
+    ReadObject,
+    WriteObject,
+    Value,
+    End,
+}
+
+// What such a word looks like: a number, R or W; behind the last word there is none.
+pub enum Form {
+    Number,
+    Letter,
+    Nothing,
+}
+
+fn form_of(e: Expected) -> Form
+    ensures { λ r. ⌜ r ≡ formOf e ⌝ }
+{
+    match e {
+        Expected::Tasks => Form::Number,
+        Expected::Objects => Form::Number,
+        Expected::Owner => Form::Number,
+        Expected::Start => Form::Number,
+        Expected::Task => Form::Number,
+        Expected::Letter => Form::Letter,
+        Expected::ReadObject => Form::Number,
+        Expected::WriteObject => Form::Number,
+        Expected::Value => Form::Number,
+        Expected::End => Form::Nothing,
+    }
+}
+
+fn is_letter(field: u64) -> bool
+    ensures { λ r. ⌜ r ≡ isLetter field ⌝ }
+{
+    if field == READ {
+        return true;
+    }
+    field == WRITE
+}
+
+// Whether a word's field is as expected.
+pub(crate) fn fits(e: Expected, field: u64) -> bool
+    ensures { λ r. ⌜ r ≡ hasForm (formOf e) field ⌝ }
+{
+    let form = form_of(e);
+    match form {
+        Form::Number => field < NONE,
+        Form::Letter => is_letter(field),
+        Form::Nothing => false,
+    }
+}
+
+// What is expected behind such a word. Behind a letter that is no W comes the object of a read.
+fn behind(e: Expected) -> Expected
+    ensures { λ r. ⌜ r ≡ behindOf e ⌝ }
+{
+    match e {
+        Expected::Tasks => Expected::Objects,
+        Expected::Objects => Expected::End,
+        Expected::Owner => Expected::Owner,
+        Expected::Start => Expected::Start,
+        Expected::Task => Expected::Letter,
+        Expected::Letter => Expected::ReadObject,
+        Expected::ReadObject => Expected::End,
+        Expected::WriteObject => Expected::Value,
+        Expected::Value => Expected::End,
+        Expected::End => Expected::End,
+    }
+}
+
+// What is expected behind a word's field.
+pub(crate) fn next(e: Expected, field: u64) -> Expected
+    ensures { λ r. ⌜ r ≡ nextOf e field ⌝ }
+{
+    if field == WRITE {
+        return Expected::WriteObject;
+    }
+    behind(e)
+}

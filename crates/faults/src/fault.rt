@@ -1,0 +1,112 @@
+// What is told of a fault, behind `line 7: expected `.
+ghost use mathlib.Core.List.{_++_};
+ghost use Prim.Native.Nat.{_+_, _≤_};
+ghost use lib.ListN.{length};
+ghost use Rattle.text.specs.Appended.{Appended};
+ghost use Rattle.faults.specs.Name.{nameOf};
+ghost use Rattle.faults.specs.FaultText.{foundLineEnd, wrongText, countText, endText, lineText, missingText, faultText};
+use crate::expected::Expected;
+use crate::kind::Kind;
+use crate::kind::first;
+use crate::name::missing_name;
+use crate::name::name_of;
+use crate::name::put_name;
+use crate::reading::objects_of;
+use crate::reading::place_of;
+use crate::shown::put_shown;
+use crate::stop::stop_in;
+use lines::words::bare_end;
+use text::put_byte;
+use text::put_bytes;
+use text::put_field;
+use text::put_number;
+
+// This word stands where another was expected.
+fn put_wrong(out: &mut [u8], at: usize, e: Expected, word: &[u8]) -> usize
+    requires { ⌜ at + 53 ≤ length (now out) ⌝ }
+    ensures { λ r. ⌜ Appended (wrongText e (now (word .entry))) (now (out .entry)) at (now (out .exit)) r ⌝ }
+    ensures { λ r. ⌜ r ≤ at + 53 ⌝ }
+{
+    let name = put_name(out, at, name_of(e));
+    let found = put_bytes(out, name, b", found ");
+    let shown = put_shown(out, found, word);
+    put_byte(out, shown, b'\n')
+}
+
+// So many were expected, and so many found.
+fn put_count(out: &mut [u8], at: usize, n: usize, word: &[u8], k: usize) -> usize
+    requires { ⌜ at + 41 + length (now word) ≤ length (now out) ⌝ }
+    ensures { λ r. ⌜ Appended (countText n (now (word .entry)) k) (now (out .entry)) at (now (out .exit)) r ⌝ }
+    ensures { λ r. ⌜ r ≤ at + 41 + length (now (word .entry)) ⌝ }
+{
+    let number = put_number(out, at, n as u64);
+    let found = put_bytes(out, number, word);
+    put_field(out, found, k as u64, b'\n')
+}
+
+fn put_line_end(out: &mut [u8], at: usize, e: Expected) -> usize
+    requires { ⌜ at + 49 ≤ length (now out) ⌝ }
+    ensures { λ r. ⌜ Appended (nameOf e ++ foundLineEnd) (now (out .entry)) at (now (out .exit)) r ⌝ }
+    ensures { λ r. ⌜ r ≤ at + 49 ⌝ }
+{
+    let name = put_name(out, at, name_of(e));
+    put_bytes(out, name, b", found the end of the line\n")
+}
+
+// The line ends, behind so many words that were as expected.
+fn put_end(out: &mut [u8], at: usize, kind: Kind, n: usize, e: Expected, k: usize) -> usize
+    requires { ⌜ at + 65 ≤ length (now out) ⌝ }
+    ensures { λ r. ⌜ Appended (endText kind n e k) (now (out .entry)) at (now (out .exit)) r ⌝ }
+    ensures { λ r. ⌜ r ≤ at + 65 ⌝ }
+{
+    match kind {
+        Kind::Sizes => put_line_end(out, at, e),
+        Kind::Owners => put_count(out, at, n, b" owners, found ", k),
+        Kind::Starts => put_count(out, at, n, b" starting values, found ", k),
+        Kind::Access => put_line_end(out, at, e),
+    }
+}
+
+// What is wrong with a line, where N is the number of objects.
+fn put_line(out: &mut [u8], at: usize, kind: Kind, n: usize, line: &[u8]) -> usize
+    requires { ⌜ (at + 65 ≤ length (now out)) × (length (now line) ≤ 1048576) ⌝ }
+    ensures { λ r. ⌜ Appended (lineText kind n (now (line .entry))) (now (out .entry)) at (now (out .exit)) r ⌝ }
+    ensures { λ r. ⌜ r ≤ at + 65 ⌝ }
+{
+    let end = bare_end(line);
+    let bare = &line[..end];
+    let s = stop_in(bare, first(kind));
+    let e = s.expected;
+    let from = s.from;
+    let to = s.to;
+    if from == to {
+        return put_end(out, at, kind, n, e, s.words);
+    }
+    put_wrong(out, at, e, &bare[from..to])
+}
+
+// The text ends where such a line was expected.
+fn put_missing(out: &mut [u8], at: usize, kind: Kind) -> usize
+    requires { ⌜ at + 49 ≤ length (now out) ⌝ }
+    ensures { λ r. ⌜ Appended (missingText kind) (now (out .entry)) at (now (out .exit)) r ⌝ }
+    ensures { λ r. ⌜ r ≤ at + 49 ⌝ }
+{
+    let name = put_name(out, at, missing_name(kind));
+    put_bytes(out, name, b", found the end of the text\n")
+}
+
+// What is wrong with the line of a number.
+pub fn put_fault(out: &mut [u8], at: usize, text: &[u8], line: usize) -> usize
+    requires { ⌜ (at + 65 ≤ length (now out)) × (length (now text) ≤ 1048576) ⌝ }
+    ensures { λ r. ⌜ Appended (faultText (now (text .entry)) line) (now (out .entry)) at (now (out .exit)) r ⌝ }
+    ensures { λ r. ⌜ r ≤ at + 65 ⌝ }
+{
+    let p = place_of(text, line);
+    let kind = p.kind;
+    let from = p.from;
+    let to = p.to;
+    if !p.there {
+        return put_missing(out, at, kind);
+    }
+    put_line(out, at, kind, objects_of(text), &text[from..to])
+}

@@ -1,0 +1,53 @@
+// The names of what was expected.
+ghost use mathlib.Core.Path.{_≡_};
+ghost use Prim.Native.Nat.{_+_, _≤_};
+ghost use lib.ListN.{length, take};
+ghost use Rattle.text.specs.Appended.{Appended};
+ghost use Rattle.faults.specs.Name.{nameOf, missingName};
+ghost use Rattle.faults.specs.Laws.NameCode.{Named};
+use crate::expected::Expected;
+use crate::kind::Kind;
+use text::put_bytes;
+
+// How many bytes a name has, and the name with blanks behind it.
+pub(crate) struct Name(pub(crate) usize, pub(crate) [u8; 21]);
+
+// Of a word.
+pub(crate) fn name_of(e: Expected) -> Name
+    ensures { λ r. ⌜ Named (nameOf e) (r .0) (r .1) ⌝ }
+{
+    match e {
+        Expected::Tasks => Name(19, *b"the number of tasks  "),
+        Expected::Objects => Name(21, *b"the number of objects"),
+        Expected::Owner => Name(8, *b"an owner             "),
+        Expected::Start => Name(16, *b"a starting value     "),
+        Expected::Task => Name(13, *b"a task number        "),
+        Expected::Letter => Name(6, *b"R or W               "),
+        Expected::ReadObject => Name(16, *b"an object number     "),
+        Expected::WriteObject => Name(16, *b"an object number     "),
+        Expected::Value => Name(7, *b"a value              "),
+        Expected::End => Name(19, *b"the end of the line  "),
+    }
+}
+
+// Of a line that is missing.
+pub(crate) fn missing_name(kind: Kind) -> Name
+    ensures { λ r. ⌜ Named (missingName kind) (r .0) (r .1) ⌝ }
+{
+    match kind {
+        Kind::Sizes => Name(19, *b"the number of tasks  "),
+        Kind::Owners => Name(10, *b"the owners           "),
+        Kind::Starts => Name(19, *b"the starting values  "),
+        Kind::Access => Name(13, *b"a task number        "),
+    }
+}
+
+pub(crate) fn put_name(out: &mut [u8], at: usize, name: Name) -> usize
+    requires { ⌜ (at + 21 ≤ length (now out)) × (name .0 ≤ 21) × (length (name .1) ≡ 21) ⌝ }
+    ensures { λ r. ⌜ Appended (take (name .0) (name .1)) (now (out .entry)) at (now (out .exit)) r ⌝ }
+    ensures { λ r. ⌜ r ≤ at + 21 ⌝ }
+{
+    let size = name.0;
+    let bytes = name.1;
+    put_bytes(out, at, &bytes[..size])
+}

@@ -1,0 +1,72 @@
+// As what a line of the text is read.
+ghost use mathlib.Core.Path.{_≡_};
+ghost use Prim.Native.Nat.{_≤_};
+ghost use lib.ListN.{length};
+ghost use Rattle.faults.specs.Reading.{readingOf, Stands, objectsOf};
+use crate::kind::Kind;
+use crate::kind::kind_after;
+use lines::next_line;
+use lines::rows::sizes_of;
+
+// What the line is, whether it is there, and where it stands.
+pub struct Place {
+    pub kind: Kind,
+    pub there: bool,
+    pub from: usize,
+    pub to: usize,
+}
+
+// The line of a number.
+pub(crate) fn place_of(text: &[u8], line: usize) -> Place
+    requires { ⌜ length (now text) ≤ 1048576 ⌝ }
+    ensures { λ r. ⌜ Stands (readingOf (now (text .entry)) line) (now (text .entry)) r ⌝ }
+{
+    let mut kind = Kind::Sizes;
+    let mut at = 0;
+    let mut number = 1;
+    while at < text.len() {
+        let l = next_line(text, at, number);
+        let from = l.from;
+        let to = l.to;
+        if !l.there {
+            return Place {
+                kind,
+                there: false,
+                from: to,
+                to,
+            };
+        }
+        if l.number == line {
+            return Place {
+                kind,
+                there: true,
+                from,
+                to,
+            };
+        }
+        kind = kind_after(kind);
+        at = to + 1;
+        number = l.number + 1;
+    }
+    Place {
+        kind,
+        there: false,
+        from: 0,
+        to: 0,
+    }
+}
+
+// N, as the first line gives it.
+pub(crate) fn objects_of(text: &[u8]) -> usize
+    requires { ⌜ length (now text) ≤ 1048576 ⌝ }
+    ensures { λ r. ⌜ r ≡ objectsOf (now (text .entry)) ⌝ }
+{
+    let l = next_line(text, 0, 1);
+    if !l.there {
+        return 0;
+    }
+    let from = l.from;
+    let to = l.to;
+    let z = sizes_of(&text[from..to]);
+    z.objects
+}
