@@ -4,14 +4,12 @@ use transcript::tell;
 
 // A recording's name, and then what the replay program writes of it.
 fn play_file(path: &[u8]) {
-    let fd = os::open_read(path);
-    if fd < 0 {
-        os::fail(path);
+    let mut bytes = [0u8; 65537];
+    let file = input::from_file(b"cases", path, &mut bytes);
+    if !file.read {
         return;
     }
-    let mut bytes = [0u8; 65537];
-    let n = io::read_full(fd, &mut bytes);
-    libc::close(fd);
+    let n = file.count;
     io::write_all(1, path);
     io::write_all(1, b"\n");
     let mut out = space();
