@@ -13,4 +13,5 @@ pub mod ReadyOf
 pub mod Run
 pub mod Sound
 pub mod StepOf
+pub mod Unmet
 pub mod Word

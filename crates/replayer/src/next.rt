@@ -106,7 +106,7 @@ pub fn look_at(
 }
 
 // The counts done, one for each task.
-pub(crate) fn dones_of(run: Run) -> [usize; TASKS]
+pub fn dones_of(run: Run) -> [usize; TASKS]
     ensures { λ r. ⌜ r ≡ donesOf (run .runs) ⌝ }
 {
     let mut dones = [0usize; TASKS];

@@ -4,7 +4,7 @@ use denote.Ref.{now}
 use borrow.Author.Needs.{needs}
 use Rattle.reader.specs.declared.Limits.{Limits}
 use Rattle.replayer.specs.FirstUnmet.{Ahead}
-use Rattle.replayer.specs.Laws.FirstUnmet.{Passing, ahead-turn}
+use Rattle.replayer.specs.Laws.FirstUnmet.{Passing, ahead-turn, stops-before, stops-behind}
 use Rattle.reader.specs.OrderingAt.{orderingAt}
 use Rattle.replayer.proofs.next.first_unmet.Statement.{statement}
 use Rattle.replayer.proofs.next.first_unmet.Tie as tie
@@ -52,6 +52,7 @@ returns : tie.Need-returns Inv-loop μ-loop
 returns c = λ m start end w. record {
   ahead = c .before .before .before .before .before .loop .inv m start end w;
   held = λ h. turn (c .before .before .before .before) m start end w .unmet (rw (c .before .before .before .source-at .ensures, c .before .before .number-at .ensures) at (c .if1 .taken));
+  holds = stops-before _ _ _ _ _ _ _ (c .before .before .before .before .before .loop .inv m start end w) (c .before .before .before .before .loop-test .taken) (turn (c .before .before .before .before) m start end w .here (rw (c .before .before .before .source-at .ensures, c .before .before .number-at .ensures) at (c .if1 .taken)));
 }
 
 length-of-requires : tie.Need-length-of-requires Inv-loop μ-loop
@@ -70,7 +71,7 @@ loop-again : tie.Need-loop-again Inv-loop μ-loop
 loop-again c = rw (c .length-of .ensures) (λ m start end w. turn (c .before .before .before .before .before) m start end w .met (rw (c .before .before .before .before .source-at .ensures, c .before .before .before .number-at .ensures) at (c .before .if1 .left)))
 
 returns-2 : tie.Need-returns-2 Inv-loop μ-loop
-returns-2 c = λ m start end w. record { ahead = c .before .loop .inv m start end w; held = λ h. absurd (omega (arith, h, c .loop-test .left)) }
+returns-2 c = λ m start end w. record { ahead = c .before .loop .inv m start end w; held = λ h. absurd (omega (arith, h, c .loop-test .left)); holds = stops-behind _ _ _ _ _ _ _ (c .before .loop .inv m start end w) (c .loop-test .left) }
 
 pub first-unmet-spec : {M : Type 1} → statement M
 first-unmet-spec =
