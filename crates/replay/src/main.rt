@@ -1,4 +1,5 @@
 // The replay program (document 01): a recording from a file or standard input, stepped lowest ready task first, a line a step.
+use transcript::MOST_REASONS;
 use transcript::space;
 use transcript::tell;
 
@@ -28,8 +29,12 @@ There is no exit status: whether all went well is seen from what is written.
     }
     let n = asked.count;
     let mut out = space();
-    let end = tell(&bytes[..n], &mut out);
-    if !io::write_all(1, &out[..end]) {
+    let mut why = [0u8; MOST_REASONS];
+    let told = tell(&bytes[..n], &mut out, &mut why);
+    let text = told.text;
+    let reasons = told.reasons;
+    if !io::write_all(1, &out[..text]) {
         io::write_all(2, b"replay: could not write all of the answer\n");
     }
+    io::write_all(2, &why[..reasons]);
 }

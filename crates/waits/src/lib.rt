@@ -22,9 +22,6 @@ use text::put_byte;
 use text::put_bytes;
 use text::put_field;
 
-// The bytes that the text can have.
-pub const MOST: usize = 2128;
-
 // Words, and a number with the byte behind it.
 fn put_part(out: &mut [u8], at: usize, words: &[u8], n: u64, after: u8) -> usize
     requires { ⌜ at + length (now words) + 21 ≤ length (now out) ⌝ }
