@@ -3,6 +3,7 @@ pub mod Lines
 pub mod LinesBound
 pub mod Objects
 pub mod Reasons
+pub mod ReasonsEach
 pub mod Streams
 pub mod Text
 pub mod TextBound
