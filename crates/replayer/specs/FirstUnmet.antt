@@ -51,9 +51,9 @@ Holds m b dones from end u = (runs : List TaskRun) → donesOf runs ≡ dones �
 
 -- a place up to which the orderings are judged: they are met, and one that stands there is not
 pub record Reached (m : Limits) (b dones : List ℕ) (from end place at : ℕ) : Type 0 where
+  pub holds : Holds m b dones from end (unmetAt b place at)
   pub ahead : Ahead m b dones from end place at
   pub held : place < at → Looks dones from (groupAt m b from end) Held
-  pub holds : Holds m b dones from end (unmetAt b place at)
 
 -- how far any group that is judged up to a place can be judged from there
 abbrev pub Scanned : List ℕ → List ℕ → ℕ → ℕ → ℕ → Type 0

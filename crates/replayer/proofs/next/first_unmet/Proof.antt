@@ -50,9 +50,9 @@ element-copy-out-if1 c = omega (arith, passing (c .before .before) .below, c .be
 
 returns : tie.Need-returns Inv-loop μ-loop
 returns c = λ m start end w. record {
+  holds = stops-before _ _ _ _ _ _ _ (c .before .before .before .before .before .loop .inv m start end w) (c .before .before .before .before .loop-test .taken) (turn (c .before .before .before .before) m start end w .here (rw (c .before .before .before .source-at .ensures, c .before .before .number-at .ensures) at (c .if1 .taken)));
   ahead = c .before .before .before .before .before .loop .inv m start end w;
   held = λ h. turn (c .before .before .before .before) m start end w .unmet (rw (c .before .before .before .source-at .ensures, c .before .before .number-at .ensures) at (c .if1 .taken));
-  holds = stops-before _ _ _ _ _ _ _ (c .before .before .before .before .before .loop .inv m start end w) (c .before .before .before .before .loop-test .taken) (turn (c .before .before .before .before) m start end w .here (rw (c .before .before .before .source-at .ensures, c .before .before .number-at .ensures) at (c .if1 .taken)));
 }
 
 length-of-requires : tie.Need-length-of-requires Inv-loop μ-loop
