@@ -1,5 +1,6 @@
 // What a program reads: the file that its argument names, or standard input. What cannot be read is told on standard error by the
 // system's own words, and is never taken for an empty file.
+ghost use mathlib.Core.Bool.{false};
 ghost use mathlib.Core.Path.{_≡_};
 ghost use Rattle.io.specs.Counts.{Counts};
 use check::same;
@@ -15,7 +16,7 @@ pub struct Input {
 }
 
 fn nothing() -> Input
-    ensures { λ r. ⌜ r .count ≡ 0 ⌝ }
+    ensures { λ r. ⌜ (r .read ≡ false) × (r .count ≡ 0) ⌝ }
 {
     Input {
         read: false,
@@ -30,7 +31,7 @@ fn fail(program: &[u8], what: &[u8]) {
     os::fail(what);
 }
 
-// Reads until the buffer is full or the input ends.
+// Reads until the buffer is full or the input ends. A read that fails is told.
 fn fill(fd: i32, program: &[u8], what: &[u8], buffer: &mut [u8]) -> Input
     ensures { λ r. ⌜ Counts (r .count) (now (buffer .exit)) ⌝ }
 {
@@ -115,7 +116,7 @@ fn from_argument(program: &[u8], expected: &[u8], help: &[u8], buffer: &mut [u8]
     from_file(program, &word[..length], buffer)
 }
 
-// What a program of this name is asked to read. `expected` says in two words what that is, and `help` what the program does with it.
+// What a program of this name is asked to read. `expected` names that, and `help` says what the program makes of it.
 pub fn from_arguments(program: &[u8], expected: &[u8], help: &[u8], buffer: &mut [u8]) -> Input
     ensures { λ r. ⌜ Counts (r .count) (now (buffer .exit)) ⌝ }
 {
