@@ -1,22 +1,25 @@
 // The recordings of data/ played and compared: the runs of the bench that no theorem has, the run that sticks among them.
+use transcript::MOST_REASONS;
 use transcript::space;
 use transcript::tell;
 
-// A recording's name, and then what the replay program writes of it.
+// A recording's name, and then what the replay program writes of it on both streams.
 fn play_file(path: &[u8]) {
-    let fd = os::open_read(path);
-    if fd < 0 {
-        os::fail(path);
+    let mut bytes = [0u8; 65537];
+    let file = input::from_file(b"cases", path, &mut bytes);
+    if !file.read {
         return;
     }
-    let mut bytes = [0u8; 65537];
-    let n = io::read_full(fd, &mut bytes);
-    libc::close(fd);
+    let n = file.count;
     io::write_all(1, path);
     io::write_all(1, b"\n");
     let mut out = space();
-    let end = tell(&bytes[..n], &mut out);
-    io::write_all(1, &out[..end]);
+    let mut why = [0u8; MOST_REASONS];
+    let told = tell(&bytes[..n], &mut out, &mut why);
+    let text = told.text;
+    let reasons = told.reasons;
+    io::write_all(1, &out[..text]);
+    io::write_all(1, &why[..reasons]);
 }
 
 fn play_argument(i: usize) {

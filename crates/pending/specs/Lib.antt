@@ -7,4 +7,5 @@ pub mod Met
 pub mod Next
 pub mod Run
 pub mod Sound
+pub mod Unmet
 pub mod Laws

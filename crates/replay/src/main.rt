@@ -1,14 +1,40 @@
-// The replay program (document 01): a recording from standard input, stepped lowest ready task first, a line a step.
+// The replay program (document 01): a recording from a file or standard input, stepped lowest ready task first, a line a step.
+use transcript::MOST_REASONS;
 use transcript::space;
 use transcript::tell;
 
 // One byte more than a recording may have, to notice a longer one.
 fn main() {
     let mut bytes = [0u8; 65537];
-    let n = io::read_full(0, &mut bytes);
+    let asked = input::from_arguments(
+        b"replay",
+        b"a recording",
+        b"Plays a recording, the lowest ready task first.
+
+Reads FILE, or standard input without FILE and for -: a recording of at most 65,536 bytes.
+
+Writes on standard output a line for each step: task, number of the access, R or W, object, value.
+Then end or stuck with the number of steps, then memory with its values. Bytes that are not a
+valid recording give refused, a number and the offset of the record that fails. More than 65,536 bytes give long.
+
+Writes on standard error what each task waits for where the play is stuck, and what could not be
+read or written.
+
+There is no exit status: whether all went well is seen from what is written.
+",
+        &mut bytes,
+    );
+    if !asked.read {
+        return;
+    }
+    let n = asked.count;
     let mut out = space();
-    let end = tell(&bytes[..n], &mut out);
-    if !io::write_all(1, &out[..end]) {
+    let mut why = [0u8; MOST_REASONS];
+    let told = tell(&bytes[..n], &mut out, &mut why);
+    let text = told.text;
+    let reasons = told.reasons;
+    if !io::write_all(1, &out[..text]) {
         io::write_all(2, b"replay: could not write all of the answer\n");
     }
+    io::write_all(2, &why[..reasons]);
 }

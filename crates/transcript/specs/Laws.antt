@@ -2,6 +2,9 @@ pub mod Answered
 pub mod Lines
 pub mod LinesBound
 pub mod Objects
+pub mod Reasons
+pub mod ReasonsEach
+pub mod Streams
 pub mod Text
 pub mod TextBound
 pub mod Told

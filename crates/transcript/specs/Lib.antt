@@ -1,4 +1,6 @@
 pub mod Lines
+pub mod Reasons
+pub mod Streams
 pub mod Text
 pub mod Told
 pub mod Laws

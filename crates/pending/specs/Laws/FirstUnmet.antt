@@ -1,11 +1,11 @@
--- Laws of `NextTurn`.
+-- Laws of `FirstUnmet`.
 use mathlib.Core.Path.{_≡_, refl, sym, ap, _∙_}
 use mathlib.Core.Bool.{Bool, true, _&&_}
 use mathlib.Core.List.{List, [], _∷_}
 use Prim.Native.Nat.{ℕ, _+_, _≤_, _<_}
 use native.Mathlib.Omega.{arith}
 use lib.ListN.{length, getD}
-use borrow.Author.Tests.{le-leb, lt-leb}
+use borrow.Author.Tests.{le-leb, lt-leb, lt-ltb, le-ltb}
 use Rattle.codec.specs.declared.Op.{Op}
 use Rattle.codec.specs.declared.Position.{Position}
 use Rattle.codec.specs.Laws.Decide.{passes, fails, split}
@@ -35,7 +35,8 @@ use Rattle.pending.specs.Look.{groupAt, Looks}
 use Rattle.pending.specs.Met.{allMet}
 use Rattle.pending.specs.Next.{judged, isOpen}
 use Rattle.pending.specs.Run.{doneOf}
-use Rattle.pending.specs.FirstUnmet.{DoneAll, Ahead}
+use Rattle.pending.specs.FirstUnmet.{unmetAt, DoneAll, Ahead, Holds}
+use Rattle.pending.specs.Unmet.{Unmet, none, first, unmetOf, unmetIn}
 
 done-at : (dones : List ℕ) (runs : List TaskRun) → donesOf runs ≡ dones → (s : ℕ) → s < maxTasks → getD dones s 0 ≡ doneOf runs s
 done-at dones runs e s h = rw (← e) (dones-at runs s h)
@@ -52,6 +53,7 @@ ahead-later m b dones later from end place at g w = record {
   reads = w .reads;
   stands = w .stands;
   same = λ runs d. w .same runs (λ s h. omega (arith, g s h, d s h));
+  passed = λ runs d. w .passed runs (λ s h. omega (arith, g s h, d s h));
 }
 
 -- an access that was found is what is open, where anything is
@@ -77,12 +79,21 @@ module _ (runs : List TaskRun) (place : ℕ) (p : Position) (e : Entry) where
   unfolding judged allMet
   judged-unmet h = rw (lt-leb (p .number) (doneOf runs (p .task)) h)
 
+  unmet-met : p .number ≤ doneOf runs (p .task) → unmetIn runs (place + 8) (read e) ≡ unmetIn runs place (read (record { orderings = p ∷ e .orderings; op = e .op }))
+  unfolding unmetIn unmetOf
+  unmet-met h = rw (le-leb (p .number) (doneOf runs (p .task)) h)
+
+  unmet-here : doneOf runs (p .task) < p .number → unmetIn runs place (read (record { orderings = p ∷ e .orderings; op = e .op })) ≡ first place p
+  unfolding unmetIn unmetOf
+  unmet-here h = rw (lt-leb (p .number) (doneOf runs (p .task)) h)
+
 -- an ordering stands at a place: met, the rest is still ahead, and not met it holds the task
 pub record Passing (m : Limits) (b dones : List ℕ) (from end place at : ℕ) (p : Position) : Type 0 where
   pub room : place + 8 ≤ length b
   pub below : p .task < maxTasks
   pub met : p .number ≤ getD dones (p .task) 0 → Ahead m b dones from end (place + 8) at
   pub unmet : getD dones (p .task) 0 < p .number → Looks dones from (groupAt m b from end) Held
+  pub here : getD dones (p .task) 0 < p .number → Holds m b dones from end (first place p)
 
 module _ (m : Limits) (b dones : List ℕ) (from end place at : ℕ) (w : Ahead m b dones from end place at) where
   ahead-case : EntryCase m place (part place end b) (w .entry)
@@ -106,10 +117,14 @@ module _ (m : Limits) (b dones : List ℕ) (from end place at : ℕ) (w : Ahead 
           reads = y;
           stands = omega (arith, w .stands, count-more x);
           same = λ runs d. rw y (judged-met runs place (x .first) (x .rest) (omega (arith, h, d (x .first .task) i))) ∙ (rw q at (w .same runs d));
+          passed = λ runs d. rw y (unmet-met runs place (x .first) (x .rest) (omega (arith, h, d (x .first .task) i))) ∙ (rw q at (w .passed runs d));
         };
         unmet = λ h runs e.
             sym (judged-unmet runs place (x .first) (x .rest) (rw (done-at dones runs e (x .first .task) i) at h))
             ∙ (rw q at (w .same runs (done-all dones runs e)));
+        here = λ h runs e.
+            sym (unmet-here runs place (x .first) (x .rest) (rw (done-at dones runs e (x .first .task) i) at h))
+            ∙ (rw q at (w .passed runs (done-all dones runs e)));
       }
 
   -- the access is further on: an ordering stands here
@@ -130,6 +145,25 @@ module _ (m : Limits) (b dones : List ℕ) (from end place at : ℕ) (w : Ahead 
     | more x ↦ absurd (omega (arith, w .stands, count-more x))
   ]
 
+  none-read : (runs : List TaskRun) (e : Entry) → e .orderings ≡ [] → none ≡ unmetIn runs place (read e)
+  unfolding unmetIn unmetOf
+  none-read runs e h = rw h
+
+  ahead-none : at ≤ place → Holds m b dones from end none
+  ahead-none h = λ runs e. elim ahead-case [
+    | last x ↦ rw (← w .passed runs (done-all dones runs e), w .reads) (none-read runs (w .entry) (x .none))
+    | more x ↦ absurd (omega (arith, w .stands, count-more x))
+  ]
+
+  -- where the scan stops
+  pub stops-before : place < at → Holds m b dones from end (first place (orderingAt b place)) → Holds m b dones from end (unmetAt b place at)
+  unfolding unmetAt
+  stops-before h k = rw (lt-ltb place at h) k
+
+  pub stops-behind : at ≤ place → Holds m b dones from end (unmetAt b place at)
+  unfolding unmetAt
+  stops-behind h = rw (le-ltb place at h) (ahead-none h)
+
   -- the rest, looked at by itself
   pub ahead-rest : (n : Next) → Looks dones place (groupAt m b place end) n → Looks dones from (groupAt m b from end) n
   ahead-rest n k = λ runs e. k runs e ∙ w .same runs (done-all dones runs e)
@@ -140,11 +174,15 @@ module _ (m : Limits) (b dones : List ℕ) (from end : ℕ) (f : Found) (e : f �
   unfolding judged
   next-refused c q = λ runs h. rw (found-refused from (groupAt m b from end) c (sym e ∙ q))
 
+  pub holds-refused : (c : Checked) → f ≡ FoundRefused c → Holds m b dones from end (unmetAt b 0 0)
+  unfolding unmetAt unmetIn
+  holds-refused c q = λ runs h. rw (found-refused from (groupAt m b from end) c (sym e ∙ q))
+
   module _ (o : Op) (a n : ℕ) (q : f ≡ FoundAccess o a n) where
     pub ahead-start : m .tasks ≤ maxTasks → end ≤ length b → Ahead m b dones from end from a
     ahead-start h l =
         let w = found-entry from (groupAt m b from end) o a n (sym e ∙ q) in
-        record { few = h; within = l; entry = w .entry; reads = w .reads; stands = w .place; same = λ runs d. refl }
+        record { few = h; within = l; entry = w .entry; reads = w .reads; stands = w .place; same = λ runs d. refl; passed = λ runs d. refl }
 
     pub next-open : (place : ℕ) → Ahead m b dones from end place a → a ≤ place → Looks dones from (groupAt m b from end) (Open o n)
     next-open place w h = λ runs d. found-open runs from (groupAt m b from end) o a n (sym e ∙ q) (ahead-open m b dones from end place a w h runs d)

@@ -8,11 +8,23 @@ use Rattle.record.proofs.main.Tie as tie
 megabyte-requires : tie.Need-megabyte-requires
 megabyte-requires c κs = search needs
 
-slice-aggregate-read-full : tie.Need-slice-aggregate-read-full
-slice-aggregate-read-full c = search needs
+slice-aggregate-from-arguments : tie.Need-slice-aggregate-from-arguments
+slice-aggregate-from-arguments c = search needs
 
-read-full-requires : tie.Need-read-full-requires
-read-full-requires c κs = search needs
+slice-aggregate-from-arguments-2 : tie.Need-slice-aggregate-from-arguments-2
+slice-aggregate-from-arguments-2 c = search needs
+
+slice-aggregate-from-arguments-3 : tie.Need-slice-aggregate-from-arguments-3
+slice-aggregate-from-arguments-3 c = search needs
+
+slice-aggregate-from-arguments-4 : tie.Need-slice-aggregate-from-arguments-4
+slice-aggregate-from-arguments-4 c = search needs
+
+from-arguments-requires : tie.Need-from-arguments-requires
+from-arguments-requires c κs = search needs
+
+returns : tie.Need-returns
+returns c = search needs
 
 large-buffer-requires : tie.Need-large-buffer-requires
 large-buffer-requires c κs = search needs
@@ -56,19 +68,23 @@ slice-aggregate-write-all-3 c = search needs
 write-all-requires-3 : tie.Need-write-all-requires-3
 write-all-requires-3 c κs = search needs
 
-returns : tie.Need-returns
-returns c = search needs
-
 returns-2 : tie.Need-returns-2
 returns-2 c = search needs
+
+returns-3 : tie.Need-returns-3
+returns-3 c = search needs
 
 pub main-spec : {M : Type 1} → statement M
 main-spec =
     tie.close
     (tie.spec
     megabyte-requires
-    slice-aggregate-read-full
-    read-full-requires
+    slice-aggregate-from-arguments
+    slice-aggregate-from-arguments-2
+    slice-aggregate-from-arguments-3
+    slice-aggregate-from-arguments-4
+    from-arguments-requires
+    returns
     large-buffer-requires
     array-share-prefix-text
     slice-aggregate-answer
@@ -83,5 +99,5 @@ main-spec =
     write-all-requires-2
     slice-aggregate-write-all-3
     write-all-requires-3
-    returns
-    returns-2)
+    returns-2
+    returns-3)

@@ -2,7 +2,7 @@ use denote.Ref.{now}
 use native.Mathlib.Omega.{arith}
 use Rattle.pending.specs.Laws.Next.{refusalOf}
 use Rattle.pending.specs.FirstUnmet.{Ahead, Reached}
-use Rattle.pending.specs.Laws.FirstUnmet.{next-refused, ahead-start, next-open}
+use Rattle.pending.specs.Laws.FirstUnmet.{next-refused, holds-refused, ahead-start, next-open}
 use Rattle.pending.proofs.Else.{not-found}
 use borrow.Author.Needs.{needs}
 use Rattle.pending.proofs.next.look_at.Statement.{statement}
@@ -36,6 +36,7 @@ returns c =
     let f = c .before .before .before .entry-at in
     record {
       looks = rw (c .refusal .ensures) (next-refused _ _ _ _ _ (f .result) (f .ensures) (refusalOf (f .result)) (not-found (f .result) (c .before .before .match .keys2)));
+      holds = holds-refused _ _ _ _ _ (f .result) (f .ensures) (refusalOf (f .result)) (not-found (f .result) (c .before .before .match .keys2));
       judged-to = λ h. absurd (omega (arith, h));
     }
 
@@ -43,11 +44,12 @@ first-unmet-requires : tie.Need-first-unmet-requires
 first-unmet-requires c κs = record { limits = _; from = _; end = _; ahead = ahead c }
 
 returns-2 : tie.Need-returns-2
-returns-2 c = record { looks = reached (c .before) .held (c .if1 .taken); judged-to = λ h. reached (c .before) .ahead }
+returns-2 c = record { looks = reached (c .before) .held (c .if1 .taken); holds = reached (c .before) .holds; judged-to = λ h. reached (c .before) .ahead }
 
 returns-3 : tie.Need-returns-3
 returns-3 c = record {
   looks = next-open _ _ _ _ _ _ (c .before .before .before .before .before .entry-at .ensures) _ _ _ (c .before .before .before .f .given .1) _ (reached (c .before) .ahead) (c .if1 .left);
+  holds = reached (c .before) .holds;
   judged-to = λ h. reached (c .before) .ahead;
 }
 

@@ -1,3 +1,4 @@
+use native.Mathlib.Omega.{arith}
 use denote.Ref.{now}
 use lib.ListN.{getD}
 use Rattle.pending.specs.FirstUnmet.{Reached}
@@ -68,7 +69,7 @@ element-write-ats c = search needs
 returns-4 : tie.Need-returns-4
 returns-4 c =
     let k = c .look-at2 .ensures in
-    λ r w n. visit-looks _ _ _ _ _ _ _ _ w n (c .before .before .before .before .if1 .left) _ (k .looks) _ _ (noted-set _ _ _ _ _ _ _ _ w n (c .before .before .before .before .before .before .before .pre .0 .1) _ _ (k .judged-to))
+    λ r w n. visit-looks _ _ _ _ _ _ _ _ w n (c .before .before .before .before .if1 .left) _ (k .looks) _ _ (noted-set _ _ _ _ _ _ _ _ w n (c .before .before .before .before .before .before .before .pre .0 .1) _ _ (λ h. k .judged-to (omega (arith, h))))
 
 pub visit-spec : {M : Type 1} → statement M
 visit-spec =

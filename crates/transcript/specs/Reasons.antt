@@ -1,0 +1,21 @@
+-- Why a play of a recording went no further, for standard error: a line for each task that has accesses left behind the last step
+-- (`waits` `Waits.waitsOf`). None where every access was played, and none of bytes that are not played.
+use mathlib.Core.Bool.{cond}
+use mathlib.Core.List.{List, []}
+use Prim.Native.Nat.{ℕ}
+use lib.Dec.{ltb}
+use lib.ListN.{length}
+use Rattle.reader.specs.Parse.{Parsed, parse}
+use Rattle.reader.specs.Reading.{Reading, refused, read}
+use Rattle.replayer.specs.OpenOf.{openedRun}
+use Rattle.scheduler.specs.Schedule.{scheduleOf}
+use Rattle.waits.specs.Waits.{waitsOf}
+use Rattle.transcript.specs.Text.{longest}
+use Rattle.transcript.specs.Told.{afterOf}
+
+unfoldable pub reasonsIn : List ℕ → Reading Parsed → List ℕ
+reasonsIn b (refused c) = []
+reasonsIn b (read p) = waitsOf b (afterOf b (openedRun p) (p .recording .values) (scheduleOf b (openedRun p)) .run)
+
+unfoldable pub reasonsOf : List ℕ → List ℕ
+reasonsOf b = cond (ltb longest (length b)) [] (reasonsIn b (parse b))

@@ -1,0 +1,47 @@
+-- Why a play goes no further, as text: for each task that has accesses left, rising, the first ordering before its next access that is not
+-- met: `task 1 waits for access 3 of task 0 (ordering at byte 66)`.
+use mathlib.Core.Bool.{cond}
+use mathlib.Core.List.{List, [], _∷_, _++_}
+use Prim.Native.Nat.{ℕ, zero, suc}
+use Rattle.pending.specs.declared.Run.{Run}
+use Rattle.replayer.specs.ReadyOf.{hasLeft}
+use Rattle.pending.specs.Unmet.{Unmet, none, first, unmetNext}
+use Rattle.text.specs.Decimal.{fieldOf}
+
+-- `task`, `waits for access`, `of task`, `(ordering at byte`, with a space behind each
+abbrev pub taskWord : List ℕ
+taskWord = 116 ∷ 97 ∷ 115 ∷ 107 ∷ 32 ∷ []
+
+abbrev pub accessWords : List ℕ
+accessWords = 119 ∷ 97 ∷ 105 ∷ 116 ∷ 115 ∷ 32 ∷ 102 ∷ 111 ∷ 114 ∷ 32 ∷ 97 ∷ 99 ∷ 99 ∷ 101 ∷ 115 ∷ 115 ∷ 32 ∷ []
+
+abbrev pub sourceWords : List ℕ
+sourceWords = 111 ∷ 102 ∷ 32 ∷ 116 ∷ 97 ∷ 115 ∷ 107 ∷ 32 ∷ []
+
+abbrev pub placeWords : List ℕ
+placeWords = 40 ∷ 111 ∷ 114 ∷ 100 ∷ 101 ∷ 114 ∷ 105 ∷ 110 ∷ 103 ∷ 32 ∷ 97 ∷ 116 ∷ 32 ∷ 98 ∷ 121 ∷ 116 ∷ 101 ∷ 32 ∷ []
+
+-- the task, the number and the source of the ordering, the place of its record; nothing where all are met
+unfoldable pub waitLine : ℕ → Unmet → List ℕ
+waitLine t none = []
+waitLine t (first at p) =
+    (taskWord ++ fieldOf t 32) ++ (accessWords ++ fieldOf (p .number) 32) ++ (sourceWords ++ fieldOf (p .task) 32) ++ (placeWords ++ fieldOf at 41) ++ (10 ∷ [])
+
+-- of a task of a run; a task with nothing left waits for nothing
+unfoldable pub waitOf : List ℕ → Run → ℕ → List ℕ
+waitOf b r t = cond (hasLeft r t) (waitLine t (unmetNext r b t)) []
+
+-- of the first n tasks, and of all
+unfoldable pub waitsIn : List ℕ → Run → ℕ → List ℕ
+waitsIn b r zero = []
+waitsIn b r (suc n) = waitsIn b r n ++ waitOf b r n
+
+abbrev pub waitsOf : List ℕ → Run → List ℕ
+waitsOf b r = waitsIn b r (r .tasks)
+
+-- the bytes that one line can have, and the text of 16 tasks
+abbrev pub lineMost : ℕ
+lineMost = 133
+
+abbrev pub waitsMost : ℕ
+waitsMost = 2128

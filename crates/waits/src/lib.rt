@@ -1,0 +1,91 @@
+// Why a play goes no further: for each task that has accesses left, the ordering that it waits for.
+ghost use mathlib.Core.List.{_++_};
+ghost use Prim.Native.Nat.{_+_, _≤_};
+ghost use lib.ListN.{length};
+ghost use Rattle.codec.specs.Limit.{maxTasks};
+ghost use Rattle.pending.specs.declared.Run.{Run};
+ghost use Rattle.pending.specs.Laws.Look.{OneTask};
+ghost use Rattle.pending.specs.Laws.Sound.{Sound};
+ghost use Rattle.pending.specs.Unmet.{first};
+ghost use Rattle.text.specs.Appended.{Appended};
+ghost use Rattle.text.specs.Decimal.{fieldOf};
+ghost use Rattle.waits.specs.Waits.{waitLine, waitOf, waitsOf, lineMost, waitsMost};
+use codec::limit::TASKS;
+use reader::Limits;
+use reader::entry::number_at;
+use reader::entry::source_at;
+use pending::Run;
+use pending::TaskRun;
+use pending::next::dones_of;
+use pending::next::look_at;
+use text::put_byte;
+use text::put_bytes;
+use text::put_field;
+
+// Words, and a number with the byte behind it.
+fn put_part(out: &mut [u8], at: usize, words: &[u8], n: u64, after: u8) -> usize
+    requires { ⌜ at + length (now words) + 21 ≤ length (now out) ⌝ }
+    ensures { λ r. ⌜ Appended (now (words .entry) ++ fieldOf n after) (now (out .entry)) at (now (out .exit)) r ⌝ }
+    ensures { λ r. ⌜ r ≤ at + length (now (words .entry)) + 21 ⌝ }
+{
+    let end = put_bytes(out, at, words);
+    put_field(out, end, n, after)
+}
+
+// The task, the access that it waits for and the place of the ordering's record.
+fn put_line(out: &mut [u8], at: usize, task: usize, source: u16, number: u16, place: usize) -> usize
+    requires { ⌜ at + lineMost ≤ length (now out) ⌝ }
+    ensures { λ r. ⌜ Appended (waitLine task (first place (record { task = source; number = number }))) (now (out .entry)) at (now (out .exit)) r ⌝ }
+{
+    let a = put_part(out, at, b"task ", task as u64, b' ');
+    let b = put_part(out, a, b"waits for access ", number as u64, b' ');
+    let c = put_part(out, b, b"of task ", source as u64, b' ');
+    let d = put_part(out, c, b"(ordering at byte ", place as u64, b')');
+    put_byte(out, d, b'\n')
+}
+
+// The line of a task: its record, with T, N, its number and the counts done of the run. None where it has no accesses left, or none of
+// its orderings holds it.
+fn put_wait(
+    out: &mut [u8],
+    at: usize,
+    x: TaskRun,
+    bytes: &[u8],
+    limits: Limits,
+    dones: &[usize; TASKS],
+) -> usize
+    requires { ⌜ (limits .tasks ≤ maxTasks) × (x .end ≤ length (now bytes)) × (at + lineMost ≤ length (now out)) ⌝ }
+    ensures { λ r. ⌜ ((run : Run) → OneTask run (limits .own) x limits (now (dones .entry))
+        → Appended (waitOf (now (bytes .entry)) run (limits .own)) (now (out .entry)) at (now (out .exit)) r) ⌝ }
+{
+    if x.count <= x.done {
+        return at;
+    }
+    let k = look_at(bytes, x.place, x.end, limits, dones);
+    let place = k.scan;
+    if k.at <= place {
+        return at;
+    }
+    let source = source_at(bytes, place);
+    let number = number_at(bytes, place);
+    put_line(out, at, limits.own, source, number, place)
+}
+
+// The lines of all tasks, from the start of the output; answered is their length.
+pub fn put_waits(bytes: &[u8], run: Run, out: &mut [u8]) -> usize
+    requires { ⌜ Sound run (length (now bytes)) × (waitsMost ≤ length (now out)) ⌝ }
+    ensures { λ r. ⌜ Appended (waitsOf (now (bytes .entry)) run) (now (out .entry)) 0 (now (out .exit)) r ⌝ }
+{
+    let dones = dones_of(run);
+    let mut at = 0;
+    for t in 0..run.tasks {
+        let x = run.runs[t];
+        let limits = Limits {
+            tasks: run.tasks,
+            objects: run.objects,
+            own: t,
+        };
+        at = put_wait(out, at, x, bytes, limits, &dones);
+    }
+    at
+}
