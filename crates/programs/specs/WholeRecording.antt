@@ -7,7 +7,7 @@ use Rattle.recorder.specs.WholeRun.{Box}
 use Rattle.fidelity.specs.Box.{Opening, Asked, lastBox, recorded, recordingOf}
 use Rattle.fidelity.specs.Statement.{Accepted}
 use Rattle.lines.specs.Lines.{Line}
-use Rattle.script.specs.Session.{most}
+use Rattle.logs.specs.Session.{most}
 use Rattle.programs.specs.Wanted.{wantedIn, wantedBy}
 
 -- an output for each section that just holds it

@@ -8,7 +8,7 @@ use Rattle.text.specs.Appended.{Appended}
 use Rattle.script.specs.declared.Answered.{Answered}
 use Rattle.script.specs.Message.{longWord, messageOf}
 use Rattle.script.specs.RecordOf.{recordOf}
-use Rattle.script.specs.Session.{most}
+use Rattle.logs.specs.Session.{most}
 
 -- what is for standard output, and what for standard error
 pub record Streams : Type 0 where

@@ -1,12 +1,7 @@
 pub mod AnswerCode
-pub mod FedCode
 pub mod Front
-pub mod LogCode
 pub mod MessageCode
 pub mod OpenedAs
 pub mod OpenedCode
-pub mod PackedCode
-pub mod Progress
 pub mod RecordCode
 pub mod RecordOf
-pub mod Room

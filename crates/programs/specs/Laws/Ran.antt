@@ -22,8 +22,8 @@ use Rattle.programs.specs.Wanted.{wantedIn, wantedBy}
 use Rattle.lines.specs.Asked.{askedBy, askedOf, isNumber}
 use Rattle.lines.specs.Fields.{fieldsOf}
 use Rattle.lines.specs.Lines.{Line}
-use Rattle.script.specs.Laws.Room.{access-same}
-use Rattle.script.specs.Session.{Session, most, callOf, stoppedAt, asking, judged, fed, fedAll}
+use Rattle.logs.specs.Laws.Room.{access-same}
+use Rattle.logs.specs.Session.{Session, most, callOf, stoppedAt, asking, judged, fed, fedAll}
 
 -- the bytes in the logs of the tasks below k
 unfoldable pub sumLogs : (ℕ → List ℕ) → ℕ → ℕ

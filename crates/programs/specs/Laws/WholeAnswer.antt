@@ -11,7 +11,7 @@ use Rattle.lines.specs.AccessLines.{accessLines}
 use Rattle.script.specs.AnswerOf.{longest, streamsOf, messageRoom, answerOf}
 use Rattle.script.specs.Message.{longWord, messageOf}
 use Rattle.script.specs.RecordOf.{recordOf}
-use Rattle.script.specs.Session.{most}
+use Rattle.logs.specs.Session.{most}
 use Rattle.programs.specs.WholeRecording.{WholeRecording}
 use Rattle.programs.specs.Laws.WholeText.{whole-text}
 

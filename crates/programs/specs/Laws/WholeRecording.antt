@@ -21,10 +21,10 @@ use Rattle.fidelity.specs.Laws.Packed.{section-wrote}
 use Rattle.fidelity.specs.Laws.Theorem.{acceptance}
 use Rattle.codec.specs.Laws.Store.{store-front}
 use Rattle.lines.specs.Lines.{Line}
-use Rattle.script.specs.Packed.{packed}
+use Rattle.logs.specs.Packed.{packed}
 use Rattle.script.specs.RecordOf.{longestHead, begun, finished, opening, withOpening}
-use Rattle.script.specs.Laws.Room.{opening-facts}
-use Rattle.script.specs.Session.{Session, most, fedAll}
+use Rattle.logs.specs.Laws.Room.{opening-facts}
+use Rattle.logs.specs.Session.{Session, most, fedAll}
 use Rattle.programs.specs.Laws.Numbered.{Numbered}
 use Rattle.programs.specs.WholeRecording.{outsOf, WholeRecording}
 use Rattle.programs.specs.Laws.Ran.{sumLogs, sum-none, Ran, ran-all}

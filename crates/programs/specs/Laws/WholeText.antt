@@ -16,7 +16,7 @@ use Rattle.lines.specs.Lines.{Line, linesOf, numbered}
 use Rattle.script.specs.RecordOf.{Outcome, stopOf, begun, finished, opening, withOpening, withOwners, withSizes, rangeOf, withLines, recordOf}
 use Rattle.lines.specs.Laws.RowCode.{row-facts}
 use Rattle.lines.specs.Rows.{isRow, sizesOf, ownersOf}
-use Rattle.script.specs.Session.{fedAll}
+use Rattle.logs.specs.Session.{fedAll}
 use Rattle.programs.specs.Laws.Numbered.{Numbered, numbered-from}
 use Rattle.programs.specs.WholeRecording.{WholeRecording}
 use Rattle.programs.specs.Laws.WholeRecording.{whole-recording}

@@ -13,7 +13,7 @@ use Rattle.script.specs.Laws.Front.{front-appended}
 use Rattle.script.specs.Message.{longWord, messageOf}
 use Rattle.script.specs.RecordOf.{recordOf}
 use Rattle.script.specs.Laws.RecordOf.{Records}
-use Rattle.script.specs.Session.{most}
+use Rattle.logs.specs.Session.{most}
 
 module _ (text out message : List ℕ) where
   pub short-out : length out < most → Answers (answerOf (length out) (length message) text) (record { written = 0; told = 0 }) out out message message

@@ -1,0 +1,5 @@
+pub mod FedCode
+pub mod LogCode
+pub mod PackedCode
+pub mod Progress
+pub mod Room

@@ -1,0 +1,3 @@
+pub mod Packed
+pub mod Session
+pub mod Laws
