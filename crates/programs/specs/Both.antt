@@ -13,7 +13,7 @@ use Rattle.fidelity.specs.Box.{Opening, Asked, recorded}
 use Rattle.lines.specs.AccessLines.{accessLines}
 use Rattle.script.specs.RecordOf.{recordOf}
 use Rattle.text.specs.Decimal.{fieldOf}
-use Rattle.transcript.specs.Lines.{endLine, memoryOf}
+use Rattle.replay_lines.specs.Lines.{endLine, memoryOf}
 use Rattle.transcript.specs.Text.{textOf}
 use Rattle.programs.specs.Wanted.{wantedIn, wantedBy}
 

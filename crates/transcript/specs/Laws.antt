@@ -1,6 +1,4 @@
 pub mod Answered
-pub mod Lines
-pub mod LinesBound
 pub mod Objects
 pub mod Reasons
 pub mod ReasonsEach

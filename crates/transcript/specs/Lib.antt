@@ -1,4 +1,3 @@
-pub mod Lines
 pub mod Reasons
 pub mod Streams
 pub mod Text

@@ -31,7 +31,7 @@ use Rattle.fidelity.specs.Laws.BoxMatches.{owner-each}
 use Rattle.fidelity.specs.Statement.{Accepted, Shows, Faithful, after, done}
 use Rattle.fidelity.specs.Laws.Theorem.{demand-3, run-finished}
 use Rattle.script.specs.RecordOf.{recordOf}
-use Rattle.transcript.specs.Lines.{lineOf}
+use Rattle.replay_lines.specs.Lines.{lineOf}
 use Rattle.transcript.specs.Laws.Text.{text-of-steps}
 use Rattle.transcript.specs.Told.{linesOf}
 use Rattle.programs.specs.Both.{accessLine, Lines, none, more, Shown}

@@ -6,11 +6,11 @@ use lib.ListN.{length, take}
 use lib.Seq.{take-length}
 use Rattle.text.specs.Appended.{Appended}
 use Rattle.text.specs.Laws.Appended.{joined, nothing}
-use Rattle.transcript.specs.Lines.{spaced, memoryOf}
-use Rattle.transcript.specs.Laws.Lines.{spaced-on, spaced-room, memory-length}
+use Rattle.replay_lines.specs.Lines.{spaced, memoryOf}
+use Rattle.replay_lines.specs.Laws.Lines.{spaced-on, spaced-room, memory-length}
 use borrow.Author.Needs.{needs}
-use Rattle.transcript.proofs.lines.put_values.Statement.{statement}
-use Rattle.transcript.proofs.lines.put_values.Tie as tie
+use Rattle.replay_lines.proofs.put_values.Statement.{statement}
+use Rattle.replay_lines.proofs.put_values.Tie as tie
 
 abbrev Inv-loop : tie.InvT-loop
 Inv-loop out₀ at memory end₀ i₀ i-end out end i = (i ≤ length memory) × (length out ≡ length out₀) × Appended (spaced (take i memory)) out₀ end₀ out end

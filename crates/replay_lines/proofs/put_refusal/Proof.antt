@@ -1,10 +1,10 @@
 use native.Mathlib.Omega.{arith}
 use Rattle.text.specs.Laws.Appended.{joined}
-use Rattle.transcript.specs.Lines.{refusalOf}
-use Rattle.transcript.specs.Laws.Lines.{refusal-length}
+use Rattle.replay_lines.specs.Lines.{refusalOf}
+use Rattle.replay_lines.specs.Laws.Lines.{refusal-length}
 use borrow.Author.Needs.{needs}
-use Rattle.transcript.proofs.lines.put_refusal.Statement.{statement}
-use Rattle.transcript.proofs.lines.put_refusal.Tie as tie
+use Rattle.replay_lines.proofs.put_refusal.Statement.{statement}
+use Rattle.replay_lines.proofs.put_refusal.Tie as tie
 
 slice-aggregate-put-bytes : tie.Need-slice-aggregate-put-bytes
 slice-aggregate-put-bytes c = search needs

@@ -1,10 +1,10 @@
 use native.Mathlib.Omega.{arith}
 use Rattle.text.specs.Laws.Appended.{joined}
-use Rattle.transcript.specs.Lines.{lineOf}
-use Rattle.transcript.specs.Laws.Lines.{line-length}
+use Rattle.replay_lines.specs.Lines.{lineOf}
+use Rattle.replay_lines.specs.Laws.Lines.{line-length}
 use borrow.Author.Needs.{needs}
-use Rattle.transcript.proofs.lines.put_step.Statement.{statement}
-use Rattle.transcript.proofs.lines.put_step.Tie as tie
+use Rattle.replay_lines.proofs.put_step.Statement.{statement}
+use Rattle.replay_lines.proofs.put_step.Tie as tie
 
 put-field-requires : tie.Need-put-field-requires
 put-field-requires c κs = omega (arith, line-length (c .before .before .args .task) (c .before .before .args .s))

@@ -3,7 +3,7 @@ ghost use mathlib.Core.Path.{_≡_};
 ghost use Prim.Native.Nat.{_+_, _≤_};
 ghost use lib.ListN.{length};
 ghost use Rattle.text.specs.Appended.{Appended};
-ghost use Rattle.transcript.specs.Lines.{letterOf, lineOf, endLine, refusalOf, memoryOf};
+ghost use Rattle.replay_lines.specs.Lines.{letterOf, lineOf, endLine, refusalOf, memoryOf};
 use codec::kind::reads;
 use replayer::Stepped;
 use text::put_byte;
@@ -18,7 +18,7 @@ fn letter(kind: u16) -> u8
 }
 
 // Task, number of the access, R or W, object, value.
-pub(crate) fn put_step(out: &mut [u8], at: usize, task: usize, s: Stepped) -> usize
+pub fn put_step(out: &mut [u8], at: usize, task: usize, s: Stepped) -> usize
     requires { ⌜ at + length (lineOf task s) ≤ length (now out) ⌝ }
     ensures { λ r. ⌜ Appended (lineOf task s) (now (out .entry)) at (now (out .exit)) r ⌝ }
 {
@@ -30,7 +30,7 @@ pub(crate) fn put_step(out: &mut [u8], at: usize, task: usize, s: Stepped) -> us
     put_field(out, e, s.value as u64, b'\n')
 }
 
-pub(crate) fn put_end(out: &mut [u8], at: usize, finished: bool, steps: usize) -> usize
+pub fn put_end(out: &mut [u8], at: usize, finished: bool, steps: usize) -> usize
     requires { ⌜ at + length (endLine finished steps) ≤ length (now out) ⌝ }
     ensures { λ r. ⌜ Appended (endLine finished steps) (now (out .entry)) at (now (out .exit)) r ⌝ }
 {
@@ -42,7 +42,7 @@ pub(crate) fn put_end(out: &mut [u8], at: usize, finished: bool, steps: usize) -
     put_field(out, end, steps as u64, b'\n')
 }
 
-pub(crate) fn put_values(out: &mut [u8], at: usize, memory: &[u32]) -> usize
+pub fn put_values(out: &mut [u8], at: usize, memory: &[u32]) -> usize
     requires { ⌜ at + length (memoryOf (now memory)) ≤ length (now out) ⌝ }
     ensures { λ r. ⌜ Appended (memoryOf (now (memory .entry))) (now (out .entry)) at (now (out .exit)) r ⌝ }
 {
@@ -54,7 +54,7 @@ pub(crate) fn put_values(out: &mut [u8], at: usize, memory: &[u32]) -> usize
     put_byte(out, end, b'\n')
 }
 
-pub(crate) fn put_refusal(out: &mut [u8], at: usize, number: u32, offset: usize) -> usize
+pub fn put_refusal(out: &mut [u8], at: usize, number: u32, offset: usize) -> usize
     requires { ⌜ at + length (refusalOf number offset) ≤ length (now out) ⌝ }
     ensures { λ r. ⌜ Appended (refusalOf number offset) (now (out .entry)) at (now (out .exit)) r ⌝ }
 {

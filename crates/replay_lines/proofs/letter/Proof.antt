@@ -1,7 +1,7 @@
 use mathlib.Core.Path.{sym, _∙_}
 use borrow.Author.Needs.{needs}
-use Rattle.transcript.proofs.lines.letter.Statement.{statement}
-use Rattle.transcript.proofs.lines.letter.Tie as tie
+use Rattle.replay_lines.proofs.letter.Statement.{statement}
+use Rattle.replay_lines.proofs.letter.Tie as tie
 
 reads-requires : tie.Need-reads-requires
 reads-requires c κs = search needs
