@@ -4,3 +4,4 @@ pub mod Ran
 pub mod WholeAnswer
 pub mod WholeRecording
 pub mod WholeText
+pub mod WrongTold

@@ -1,11 +1,11 @@
 -- A line is explained as wrong exactly where it is not taken.
-use mathlib.Core.Path.{_≡_, refl, ap, _∙_, sym}
+use mathlib.Core.Path.{_≡_, refl, _∙_, sym}
 use mathlib.Core.Bool.{Bool, true, false, _&&_, _||_}
 use mathlib.Core.List.{List, [], _∷_, map}
 use Prim.Native.Nat.{ℕ, suc, _+_, _<_}
 use native.Mathlib.Omega.{arith}
-use borrow.Author.Tests.{eq-eqb, ne-eqb, ltb-true, eqb-true, eqb-false}
-use lib.Dec.{eqb, ltb}
+use borrow.Author.Tests.{ne-eqb, ltb-true, eqb-true}
+use lib.Dec.{eqb}
 use lib.ListN.{length, length-map}
 use Rattle.codec.specs.Laws.Decide.{passes, fails, split}
 use Rattle.reader.specs.Parse.{allBelow}

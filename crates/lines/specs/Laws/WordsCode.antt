@@ -9,7 +9,7 @@ use borrow.Author.Tests.{eqb-true, eqb-false, ne-eqb}
 use lib.Dec.{eqb}
 use lib.ListN.{length, take, drop, getD, length-drop, drop-of-length-le}
 use lib.Seq.{drop-cons, drop-drop, length-take-le}
-use Rattle.codec.specs.Laws.Decide.{Split, passes, fails, split, never}
+use Rattle.codec.specs.Laws.Decide.{passes, fails, split}
 use Rattle.lines.specs.Words.{isBlank, front, piecesOf, filledOf, wordsIn, NextWord}
 
 -- a byte goes on with a run of blanks, or of other bytes
