@@ -1,4 +1,4 @@
-// The recordings of data/ played and compared: the runs of the bench that no theorem has, the run that sticks among them.
+// The recordings of data/ played and compared: the runs of the bench that no theorem has, two that get stuck among them.
 use transcript::MOST_REASONS;
 use transcript::space;
 use transcript::tell;

@@ -17,7 +17,7 @@ pub struct Stopped {
     pub to: usize,
 }
 
-// The first word that is not as expected, of a line without its remark.
+// The first word that is not as expected, of a line without its comment.
 pub(crate) fn stop_in(line: &[u8], first: Expected) -> Stopped
     requires { ⌜ length (now line) ≤ 1048576 ⌝ }
     ensures { λ r. ⌜ Stops (stopOf first 0 (wordsIn (now (line .entry)))) (now (line .entry)) r ⌝ }

@@ -1,5 +1,5 @@
-// What a program reads: the file that its argument names, or standard input. What cannot be read is told on standard error by the
-// system's own words, and is never taken for an empty file.
+// What a program reads: the file that its argument names, or standard input. What cannot be read is reported on standard error
+// in the system's own words, and is never taken for an empty file.
 ghost use mathlib.Core.Bool.{false};
 ghost use mathlib.Core.Path.{_≡_};
 ghost use Rattle.io.specs.Counts.{Counts};
@@ -31,7 +31,7 @@ fn fail(program: &[u8], what: &[u8]) {
     os::fail(what);
 }
 
-// Reads until the buffer is full or the input ends. A read that fails is told.
+// Reads until the buffer is full or the input ends. A read that fails is reported.
 fn fill(fd: i32, program: &[u8], what: &[u8], buffer: &mut [u8]) -> Input
     ensures { λ r. ⌜ Counts (r .count) (now (buffer .exit)) ⌝ }
 {

@@ -1,4 +1,4 @@
--- The words of a line: the runs of bytes that are no blanks. A # begins a remark, up to the line's end.
+-- The words of a line: the runs of bytes that are no blanks. A # begins a comment, up to the line's end.
 use mathlib.Core.Path.{_≡_}
 use mathlib.Core.Bool.{Bool, cond, _||_}
 use mathlib.Core.List.{List, [], _∷_}
@@ -30,7 +30,7 @@ filledOf ((b ∷ w) ∷ ws) = (b ∷ w) ∷ filledOf ws
 unfoldable pub wordsIn : List ℕ → List (List ℕ)
 wordsIn l = filledOf (piecesOf l)
 
--- what stands before the remark
+-- what stands before the comment
 unfoldable pub bareOf : List ℕ → List ℕ
 bareOf line = take (indexOf 35 line) line
 

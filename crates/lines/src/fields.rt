@@ -73,7 +73,7 @@ fn put_field(out: &mut [u64], at: usize, value: u64)
     }
 }
 
-// The fields of a line without its remark.
+// The fields of a line without its comment.
 fn fields_in(line: &[u8], out: &mut [u64]) -> usize
     requires { ⌜ length (now line) ≤ 1048576 ⌝ }
     ensures { λ r. ⌜ r ≡ length (map fieldOf (wordsIn (now (line .entry)))) ⌝ }

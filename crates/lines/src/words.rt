@@ -49,7 +49,7 @@ pub struct Word {
     pub to: usize,
 }
 
-// The next word from a place on, of a line without its remark.
+// The next word from a place on, of a line without its comment.
 pub fn next_word(line: &[u8], at: usize) -> Word
     requires { ⌜ at ≤ length (now line) ⌝ }
     ensures { λ r. ⌜ NextWord (now (line .entry)) at (r .from) (r .to) ⌝ }
@@ -59,7 +59,7 @@ pub fn next_word(line: &[u8], at: usize) -> Word
     Word { from, to }
 }
 
-// Where a line's remark begins, or the line ends.
+// Where a line's comment begins, or the line ends.
 pub fn bare_end(line: &[u8]) -> usize
     ensures { λ r. ⌜ (r ≤ length (now (line .entry))) × (take r (now (line .entry)) ≡ bareOf (now (line .entry))) ⌝ }
 {

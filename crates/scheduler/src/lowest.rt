@@ -16,8 +16,8 @@ pub enum NextStep {
     Stopped,
 }
 
-// Visits the tasks from 0 on until one is open: it goes on to the place behind its access, with one more done. What is learnt of the
-// tasks that are held is kept in the notes.
+// Tests the tasks from 0 on until one may go: it moves on to the place behind its access, with one more done. What is learnt of the tasks
+// that have to wait is kept in the notes.
 pub fn lowest(
     tasks: usize,
     objects: usize,

@@ -1,5 +1,5 @@
-// A task looked at on the way to the lowest that is ready. Of one that an ordering holds it is noted how far its entry is judged, so that
-// no ordering is read again once it is met.
+// One task tested on the way to the lowest that is ready. For a task that has to wait, a note says how far its orderings have been tested, so
+// that no ordering is read again once it is met.
 ghost use Prim.Native.Nat.{_≤_, _<_};
 ghost use lib.ListN.{length, getD};
 ghost use Rattle.codec.specs.Limit.{maxTasks};

@@ -1,4 +1,4 @@
-// What is told where there is no recording.
+// What standard error gets where there is no recording.
 ghost use Prim.Native.Nat.{_≤_};
 ghost use lib.ListN.{length};
 ghost use Rattle.text.specs.Appended.{Appended};

@@ -10,7 +10,7 @@ use Rattle.codec.specs.Laws.Store.{store-append}
 use Rattle.lines.specs.Fields.{fieldOf}
 use Rattle.lines.specs.Words.{wordsIn, NextWord}
 
--- the fields of a line without its remark
+-- the fields of a line without its comment
 abbrev pub fieldsIn : List ℕ → List ℕ
 fieldsIn line = map fieldOf (wordsIn line)
 
