@@ -6,7 +6,7 @@ use lines::fields::READ;
 use lines::fields::WRITE;
 
 // The object of a read ends its line, and that of a write has a value behind it.
-pub enum Expected {
+pub(crate) enum Expected {
     Tasks,
     Objects,
     Owner,
@@ -20,7 +20,7 @@ pub enum Expected {
 }
 
 // What such a word looks like: a number, R or W; behind the last word there is none.
-pub enum Form {
+pub(crate) enum Form {
     Number,
     Letter,
     Nothing,

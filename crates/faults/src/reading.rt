@@ -9,11 +9,11 @@ use lines::next_line;
 use lines::rows::sizes_of;
 
 // What the line is, whether it is there, and where it stands.
-pub struct Place {
-    pub kind: Kind,
-    pub there: bool,
-    pub from: usize,
-    pub to: usize,
+pub(crate) struct Place {
+    pub(crate) kind: Kind,
+    pub(crate) there: bool,
+    pub(crate) from: usize,
+    pub(crate) to: usize,
 }
 
 // The line of a number.

@@ -10,11 +10,11 @@ use lines::fields::field;
 use lines::words::next_word;
 
 // What was expected there, how many words were as expected, and where the word stands; it has no bytes at the line's end.
-pub struct Stopped {
-    pub expected: Expected,
-    pub words: usize,
-    pub from: usize,
-    pub to: usize,
+pub(crate) struct Stopped {
+    pub(crate) expected: Expected,
+    pub(crate) words: usize,
+    pub(crate) from: usize,
+    pub(crate) to: usize,
 }
 
 // The first word that is not as expected, of a line without its comment.
