@@ -1,2 +1,3 @@
+-- What is proved of the definitions of this crate; nothing here has to be believed.
 pub mod Waits
 pub mod WaitsEach
