@@ -19,8 +19,8 @@ use tracker::Counters;
 use tracker::Locality;
 use tracker::ObjectRecord;
 use tracker::State;
-use tracker::advance::holder_of;
-use tracker::advance::share_of;
+use transitions::advance::holder_of;
+use transitions::advance::share_of;
 
 // A case above 2 means nothing. It is read as shared with share number 0, which is unsound, so each call on it answers 17.
 fn record_of(case: u16, task: u16, share: u32) -> ObjectRecord

@@ -21,7 +21,7 @@ use codec::write::put_head;
 use tracker::Locality;
 use tracker::ObjectRecord;
 use tracker::State;
-use tracker::blank;
+use transitions::blank;
 
 // What opening answers: the number, the bytes written and the state, blank on a refusal.
 pub struct Opened {

@@ -1,7 +1,6 @@
 -- What is proved of the definitions of this crate; nothing here has to be believed.
 pub mod Accesses
 pub mod After
-pub mod ByRow
 pub mod Covered
 pub mod Covers
 pub mod EachRow

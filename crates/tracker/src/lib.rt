@@ -1,14 +1,8 @@
-// The recorder's state, its soundness test and the transition table of document 01.
-ghost use mathlib.Core.Path.{_≡_};
-ghost use Rattle.tracker.specs.Laws.Counters.{countersOf};
-ghost use Rattle.tracker.specs.State.{blankState};
+// The recorder's state. What the transition table of document 01 makes of it is defined in specs/, and proved there to make sound
+// histories; the code is in the crate above, `transitions`.
 use codec::Position;
 use codec::limit::OBJECTS;
 use codec::limit::TASKS;
-
-pub mod advance;
-pub mod sound;
-pub mod table;
 
 // Who has an object: one task for writing, one for reading, or every task by a share's number.
 // Document 01: write-held by S, read-held by S, shared c.
@@ -72,41 +66,4 @@ pub struct Plan {
     pub last: Position,
     pub first: Position,
     pub second: Position,
-}
-
-// Document 01: the blank state, all zero.
-pub fn blank() -> State
-    ensures { λ r. ⌜ r ≡ blankState ⌝ }
-{
-    let locality = Locality::WriteExclusive(0);
-    let record = ObjectRecord { locality };
-    let last = Position { task: 0, number: 0 };
-    State {
-        tasks: 0,
-        objects: 0,
-        records: [record; OBJECTS],
-        done: [0u16; TASKS],
-        seen: [0u32; TASKS],
-        took: [0u16; TASKS],
-        shares: 0,
-        last,
-    }
-}
-
-pub fn counters_of(state: State) -> Counters
-    ensures { λ r. ⌜ r ≡ countersOf state ⌝ }
-{
-    let done = state.done;
-    let seen = state.seen;
-    let took = state.took;
-    let last = state.last;
-    Counters {
-        tasks: state.tasks,
-        objects: state.objects,
-        done,
-        seen,
-        took,
-        shares: state.shares,
-        last,
-    }
 }
