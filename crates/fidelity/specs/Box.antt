@@ -6,7 +6,7 @@ use Prim.Native.Nat.{ℕ, _<_}
 use lib.Dec.{eqb}
 use lib.ListN.{getD, set, take}
 use Rattle.reader.specs.Range.{AllUnder}
-use Rattle.reader.specs.Recording.{Recording}
+use Rattle.entries.specs.Recording.{Recording}
 use Rattle.history.specs.Entry.{Act, Entry}
 use Rattle.history.specs.History.{History}
 use Rattle.tracker.specs.Orderings.{writtenOf}

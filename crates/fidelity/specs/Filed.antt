@@ -5,7 +5,7 @@ use Prim.Native.Nat.{ℕ, zero, suc}
 use lib.Dec.{eqb}
 use Rattle.codec.specs.declared.Op.{Op}
 use Rattle.codec.specs.Encode.{opOf}
-use Rattle.reader.specs.Recording.{Entry as FileEntry}
+use Rattle.entries.specs.Recording.{Entry as FileEntry}
 use Rattle.history.specs.Entry.{Act, read, write, acquire, Entry}
 use Rattle.history.specs.History.{History}
 

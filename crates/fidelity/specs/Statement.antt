@@ -9,7 +9,7 @@ use lib.ListN.{length, getD}
 use Rattle.codec.specs.Kind.{reads as readsKind, writes as writesKind}
 use Rattle.reader.specs.Calls.{checkedOf}
 use Rattle.reader.specs.Parse.{Parsed, parse}
-use Rattle.reader.specs.Reading.{read as reads, stop}
+use Rattle.entries.specs.Reading.{read as reads, stop}
 use Rattle.history.specs.Entry.{Act, read, write, acquire, Entry}
 use Rattle.history.specs.History.{History}
 use Rattle.history.specs.Access.{Access}

@@ -2,7 +2,7 @@
 -- is not among them: it has arrays of its own.
 use mathlib.Core.List.{List, [], _∷_}
 use Prim.Native.Nat.{ℕ}
-use Rattle.reader.specs.declared.Checked.{Checked}
+use Rattle.entries.specs.declared.Checked.{Checked}
 use Rattle.opening.specs.declared.Opened.{Opened}
 use Rattle.recorder.specs.declared.Accessed.{Accessed}
 use Rattle.sections.specs.declared.Sectioned.{Sectioned}

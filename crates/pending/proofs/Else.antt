@@ -3,10 +3,10 @@ use mathlib.Core.Path.{_≡_, refl}
 use mathlib.Core.List.{[], _∷_}
 use types.Run.{OneOf, miss}
 use denote.Enum.Declared.{tagOf}
-use Rattle.reader.proofs.entry.Found.{the-type as found-type}
-use Rattle.reader.specs.declared.entry.Found.{Found}
-use Rattle.reader.specs.declared.entry.Found.the-variants.{Access as FoundAccess, Refused as FoundRefused}
-use Rattle.reader.specs.Reading.{stop}
+use Rattle.entries.proofs.entry.Found.{the-type as found-type}
+use Rattle.entries.specs.declared.entry.Found.{Found}
+use Rattle.entries.specs.declared.entry.Found.the-variants.{Access as FoundAccess, Refused as FoundRefused}
+use Rattle.entries.specs.Reading.{stop}
 use Rattle.pending.specs.Laws.Next.{refusalOf}
 
 pub not-found : (f : Found) → OneOf (1 ∷ []) (tagOf found-type f) → f ≡ FoundRefused (refusalOf f)

@@ -6,10 +6,10 @@ use Prim.Native.Nat.{ℕ, _+_, _*_, _≤_, _<_}
 use lib.Dec.{ltb}
 use lib.ListN.{length, getD}
 use Rattle.codec.specs.Limit.{maxTasks}
-use Rattle.reader.specs.declared.Limits.{Limits}
-use Rattle.reader.specs.OrderingAt.{orderingAt}
-use Rattle.reader.specs.Reading.{read}
-use Rattle.reader.specs.Recording.{Entry}
+use Rattle.entries.specs.declared.Limits.{Limits}
+use Rattle.entries.specs.OrderingAt.{orderingAt}
+use Rattle.entries.specs.Reading.{read}
+use Rattle.entries.specs.Recording.{Entry}
 use Rattle.pending.specs.declared.TaskRun.{TaskRun}
 use Rattle.pending.specs.declared.next.Look.{Look}
 use Rattle.pending.specs.declared.next.Next.the-variants.{Held}

@@ -3,11 +3,11 @@ use mathlib.Core.Path.{_≡_}
 use mathlib.Core.List.{List}
 use Prim.Native.Nat.{ℕ}
 use Rattle.codec.specs.Number.{inBody}
-use Rattle.reader.specs.declared.Limits.{Limits}
-use Rattle.reader.specs.Entry.{entryAt}
-use Rattle.reader.specs.Part.{part}
-use Rattle.reader.specs.Reading.{Reading, stop}
-use Rattle.reader.specs.Recording.{Entry}
+use Rattle.entries.specs.declared.Limits.{Limits}
+use Rattle.entries.specs.Entry.{entryAt}
+use Rattle.entries.specs.Part.{part}
+use Rattle.entries.specs.Reading.{Reading, stop}
+use Rattle.entries.specs.Recording.{Entry}
 use Rattle.pending.specs.declared.TaskRun.{TaskRun}
 use Rattle.pending.specs.declared.next.Next.{Next}
 use Rattle.pending.specs.Dones.{donesOf}

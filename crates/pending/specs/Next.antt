@@ -5,11 +5,11 @@ use mathlib.Core.Bool.{Bool, true, false, cond}
 use mathlib.Core.List.{List}
 use Prim.Native.Nat.{ℕ, _+_}
 use Rattle.codec.specs.Number.{inBody}
-use Rattle.reader.specs.Bytes.{entryLength}
-use Rattle.reader.specs.Entry.{entryAt}
-use Rattle.reader.specs.Part.{part}
-use Rattle.reader.specs.Reading.{Reading, refused, read, stop}
-use Rattle.reader.specs.Recording.{Entry}
+use Rattle.entries.specs.Bytes.{entryLength}
+use Rattle.entries.specs.Entry.{entryAt}
+use Rattle.entries.specs.Part.{part}
+use Rattle.entries.specs.Reading.{Reading, refused, read, stop}
+use Rattle.entries.specs.Recording.{Entry}
 use Rattle.pending.specs.declared.TaskRun.{TaskRun}
 use Rattle.pending.specs.declared.Run.{Run}
 use Rattle.pending.specs.declared.next.Next.{Next}

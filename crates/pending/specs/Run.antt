@@ -3,7 +3,7 @@ use Prim.Native.Nat.{ℕ, _+_}
 use mathlib.Core.List.{List}
 use lib.ListN.{getD, set, replicate}
 use Rattle.codec.specs.Limit.{maxTasks}
-use Rattle.reader.specs.declared.Limits.{Limits}
+use Rattle.entries.specs.declared.Limits.{Limits}
 use Rattle.pending.specs.declared.TaskRun.{TaskRun}
 use Rattle.pending.specs.declared.Run.{Run}
 

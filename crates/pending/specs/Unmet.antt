@@ -6,8 +6,8 @@ use Prim.Native.Nat.{ℕ, _+_}
 use lib.Dec.{leb}
 use Rattle.codec.specs.declared.Position.{Position}
 use Rattle.codec.specs.Kind.{orderingKind, lengthOf}
-use Rattle.reader.specs.Reading.{Reading, refused, read}
-use Rattle.reader.specs.Recording.{Entry}
+use Rattle.entries.specs.Reading.{Reading, refused, read}
+use Rattle.entries.specs.Recording.{Entry}
 use Rattle.pending.specs.declared.TaskRun.{TaskRun}
 use Rattle.pending.specs.declared.Run.{Run}
 use Rattle.pending.specs.Next.{entryNext}

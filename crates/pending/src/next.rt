@@ -13,12 +13,12 @@ use codec::Op;
 use codec::kind::ORDERING;
 use codec::kind::length_of;
 use codec::limit::TASKS;
-use reader::Checked;
-use reader::Limits;
-use reader::entry::Found;
-use reader::entry::entry_at;
-use reader::entry::number_at;
-use reader::entry::source_at;
+use entries::Checked;
+use entries::Limits;
+use entries::entry::Found;
+use entries::entry::entry_at;
+use entries::entry::number_at;
+use entries::entry::source_at;
 
 // An access that may be done now and the place behind it; one that an ordering holds; or records that do not read.
 pub enum Next {

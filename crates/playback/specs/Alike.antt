@@ -7,7 +7,7 @@ use Prim.Native.Nat.{ℕ}
 use lib.Dec.{eqb}
 use lib.ListN.{length, getD}
 use Rattle.reader.specs.Parse.{Parsed, parse}
-use Rattle.reader.specs.Reading.{Reading, refused, read}
+use Rattle.entries.specs.Reading.{Reading, refused, read}
 use Rattle.codec.specs.Number.{entries as wrongLength}
 use Rattle.playback.specs.declared.alike.Compared.{Compared}
 use Rattle.playback.specs.declared.finish.Played.{Played}

@@ -1,15 +1,7 @@
-pub mod Answers
-pub mod Body
-pub mod Bytes
 pub mod Calls
-pub mod Entry
 pub mod Layout
-pub mod OrderingAt
 pub mod Parse
-pub mod Part
 pub mod Range
-pub mod Reading
-pub mod Recording
 pub mod Section
 pub mod Starting
 pub mod Laws

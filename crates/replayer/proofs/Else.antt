@@ -10,7 +10,7 @@ use Rattle.pending.specs.declared.Run.{Run}
 use Rattle.pending.specs.declared.next.Next.{Next}
 use Rattle.pending.specs.declared.next.Next.the-variants.{Open, Held, Refused}
 use Rattle.codec.specs.Number.{held}
-use Rattle.reader.specs.Reading.{stop}
+use Rattle.entries.specs.Reading.{stop}
 use Rattle.pending.specs.Next.{isOpen}
 use Rattle.replayer.specs.StepOf.{refusedStep, onNext}
 use Rattle.replayer.specs.Laws.StepOf.{lateRefusal}

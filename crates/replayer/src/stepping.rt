@@ -14,11 +14,11 @@ use codec::number::FINISHED;
 use codec::number::HELD;
 use codec::number::NO_TASK;
 use codec::number::UNSOUND;
+use entries::Checked;
 use pending::Run;
 use pending::TaskRun;
 use pending::next::Next;
 use pending::sound::sound;
-use reader::Checked;
 
 // 17, 3, 5, 15, or 0 where none of them applies.
 pub(crate) fn early_number(run: Run, size: usize, entries: usize, task: usize) -> u32

@@ -4,9 +4,9 @@ use mathlib.Core.Path.{_≡_}
 use mathlib.Core.List.{[], _∷_, _++_}
 use lib.ListN.{length, take}
 use Rattle.codec.specs.Encode.{opOf}
-use Rattle.reader.specs.Reading.{stop}
-use Rattle.reader.specs.Recording.{Recording}
-use Rattle.reader.specs.Bytes.{bytesOf}
+use Rattle.entries.specs.Reading.{stop}
+use Rattle.entries.specs.Recording.{Recording}
+use Rattle.entries.specs.Bytes.{bytesOf}
 use Rattle.reader.specs.Parse.{parse}
 use Rattle.reader.specs.Calls.{checkedOf}
 

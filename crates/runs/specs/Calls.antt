@@ -6,7 +6,7 @@ use lib.ListN.{length, replicate}
 use Rattle.codec.specs.Encode.{access}
 use Rattle.reader.specs.Parse.{parse}
 use Rattle.reader.specs.Calls.{checkedOf}
-use Rattle.reader.specs.Reading.{stop}
+use Rattle.entries.specs.Reading.{stop}
 use Rattle.opening.specs.OpenOf.{OpenOutcome, openOf}
 use Rattle.recorder.specs.WholeRun.{Call, Box, outcome, calledAll, packed}
 

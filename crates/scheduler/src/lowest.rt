@@ -6,9 +6,9 @@ ghost use Rattle.scheduler.specs.Laws.Lowest.{lowestOf, afterOf};
 use crate::visit::visit;
 use codec::Op;
 use codec::limit::TASKS;
+use entries::Limits;
 use pending::TaskRun;
 use pending::next::Next;
-use reader::Limits;
 
 // The lowest ready task and its next access; or no task is ready.
 pub enum NextStep {

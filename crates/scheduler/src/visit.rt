@@ -7,11 +7,11 @@ ghost use Rattle.pending.specs.declared.Run.{Run};
 ghost use Rattle.pending.specs.Laws.Look.{OneTask};
 ghost use Rattle.scheduler.specs.Laws.Visit.{Note, Noted, Visited};
 use codec::limit::TASKS;
+use entries::Limits;
 use pending::TaskRun;
 use pending::next::Next;
 use pending::next::first_unmet;
 use pending::next::look_at;
-use reader::Limits;
 
 // What stands next for a task, held where it has no accesses left. The note of a task is the place of the access's record, and the place
 // of the first ordering before it that was not met. A step leads past that record, and so it ends the note.

@@ -4,12 +4,12 @@ ghost use Prim.Native.Nat.{_+_, _<_, _^_};
 ghost use Rattle.tracker.specs.State.{holderOf, shareOf};
 ghost use Rattle.transitions.specs.Laws.ByRow.{plainPlan, sharePlan, fencePlan, holdPlan, planBy};
 ghost use Rattle.tracker.specs.Laws.Plan.{Admits, planFor};
+use crate::table::row_of;
+use codec::Position;
 use tracker::Counters;
 use tracker::Locality;
 use tracker::Plan;
 use tracker::Row;
-use crate::table::row_of;
-use codec::Position;
 
 // What a row may change besides the object, before the access: Seen and Took of its task, G and Last; `here` is (T2, k).
 struct Kept {

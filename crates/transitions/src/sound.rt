@@ -5,13 +5,13 @@ ghost use Prim.Native.Nat.{_≤_, min};
 ghost use Rattle.codec.specs.Limit.{maxTasks, maxObjects};
 ghost use Rattle.tracker.specs.Laws.Scan.{countersSound};
 ghost use Rattle.tracker.specs.Sound.{lastSound, taskSound, tasksSound, objectSound};
-use tracker::Counters;
-use tracker::Locality;
 use codec::Position;
 use codec::limit::OBJECTS;
 use codec::limit::TASKS;
 use codec::limit::least;
 use codec::limit::within;
+use tracker::Counters;
+use tracker::Locality;
 
 // Last is none, and then there is no share, or its task has made that access.
 fn last_sound(last: Position, tasks: u16, shares: u32, done: [u16; TASKS]) -> bool

@@ -9,10 +9,10 @@ use Rattle.codec.specs.Encode.{head}
 use Rattle.codec.specs.Laws.Encode.{head-length}
 use Rattle.codec.specs.Laws.Store.{store-front}
 use Rattle.codec.specs.Head.{headLength}
-use Rattle.reader.specs.Bytes.{bytesOf}
+use Rattle.entries.specs.Bytes.{bytesOf}
 use Rattle.reader.specs.Parse.{Parsed, parse}
 use Rattle.reader.specs.Range.{HeadIn, InRange}
-use Rattle.reader.specs.Reading.{read}
+use Rattle.entries.specs.Reading.{read}
 use Rattle.reader.specs.Laws.Roundtrip.{parse-back, spansOf}
 use Rattle.history.specs.Memory.{reference}
 use Rattle.tracker.specs.Laws.Tracks.{tracks-sound, tracks-tasks, tracks-memory}

@@ -10,7 +10,7 @@ use Rattle.codec.specs.Laws.Decide.{passes, fails, split}
 use Rattle.codec.specs.Encode.{head}
 use Rattle.codec.specs.Head.{headLength}
 use Rattle.codec.specs.Store.{store}
-use Rattle.reader.specs.Bytes.{bodyBytes}
+use Rattle.entries.specs.Bytes.{bodyBytes}
 use Rattle.reader.specs.Range.{AllUnder}
 use Rattle.history.specs.Laws.History.{at-nil}
 use Rattle.tracker.specs.Opened.{openedState}

@@ -9,9 +9,9 @@ use borrow.Author.Tests.{eqb-true, eqb-false}
 use lib.Dec.{eqb}
 use lib.ListN.{length, getD, length-append}
 use Rattle.codec.specs.Laws.Decide.{passes, fails, split}
-use Rattle.reader.specs.declared.Limits.{Limits}
-use Rattle.reader.specs.Recording.{Entry as FileEntry}
-use Rattle.reader.specs.Bytes.{entryBytes, bodyBytes}
+use Rattle.entries.specs.declared.Limits.{Limits}
+use Rattle.entries.specs.Recording.{Entry as FileEntry}
+use Rattle.entries.specs.Bytes.{entryBytes, bodyBytes}
 use Rattle.reader.specs.Range.{EntryIn, EntriesIn}
 use Rattle.history.specs.Entry.{Entry}
 use Rattle.history.specs.History.{History, count, At, here, there}

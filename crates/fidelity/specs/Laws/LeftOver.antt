@@ -9,7 +9,7 @@ use native.Mathlib.Decide.{ℕ-discrete}
 use borrow.Author.Tests.{eq-eqb, ne-eqb, le-leb, lt-leb}
 use lib.Dec.{eqb, leb}
 use Rattle.codec.specs.Laws.Decide.{passes, fails, split}
-use Rattle.reader.specs.Recording.{Entry as FileEntry}
+use Rattle.entries.specs.Recording.{Entry as FileEntry}
 use Rattle.history.specs.Entry.{Entry}
 use Rattle.history.specs.History.{History, count, At, here, there}
 use Rattle.history.specs.Laws.History.{count-own, count-other, at-lt}

@@ -4,7 +4,7 @@ use mathlib.Core.Path.{_≡_}
 use Prim.Native.Nat.{ℕ, _<_}
 use lib.ListN.{length, getD}
 use Rattle.reader.specs.Parse.{Parsed, parse}
-use Rattle.reader.specs.Reading.{read}
+use Rattle.entries.specs.Reading.{read}
 use Rattle.history.specs.Entry.{Act, Entry}
 use Rattle.history.specs.History.{History, At}
 use Rattle.history.specs.Sound.{Sound}

@@ -11,8 +11,8 @@ use Rattle.codec.specs.declared.Op.{Op}
 use Rattle.codec.specs.Laws.Decide.{passes, fails, split}
 use Rattle.codec.specs.Laws.Encode.{op-read}
 use Rattle.codec.specs.Laws.Store.{store-front}
-use Rattle.reader.specs.Recording.{Entry as FileEntry}
-use Rattle.reader.specs.Bytes.{entryBytes, entryLength}
+use Rattle.entries.specs.Recording.{Entry as FileEntry}
+use Rattle.entries.specs.Bytes.{entryBytes, entryLength}
 use Rattle.history.specs.Entry.{Entry}
 use Rattle.tracker.specs.declared.State.{State}
 use Rattle.tracker.specs.Laws.Accesses.{trackedEntry, memoryAfter as trackedMemory}

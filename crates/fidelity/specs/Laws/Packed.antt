@@ -12,11 +12,11 @@ use Rattle.codec.specs.Laws.Encode.{section-length}
 use Rattle.codec.specs.Laws.Store.{store-front}
 use Rattle.codec.specs.Kind.{sectionKind, lengthOf}
 use Rattle.codec.specs.Limit.{maxAccesses}
-use Rattle.reader.specs.Body.{walkOf}
-use Rattle.reader.specs.Bytes.{bodyBytes, sectionsBytes}
+use Rattle.entries.specs.Body.{walkOf}
+use Rattle.entries.specs.Bytes.{bodyBytes, sectionsBytes}
 use Rattle.reader.specs.Laws.Joined.{reads-walk}
 use Rattle.reader.specs.Range.{BodyIn, BodiesIn}
-use Rattle.reader.specs.Reading.{stop}
+use Rattle.entries.specs.Reading.{stop}
 use Rattle.reader.specs.Laws.Roundtrip.{body-back}
 use Rattle.history.specs.History.{History}
 use Rattle.tracker.specs.declared.State.{State}

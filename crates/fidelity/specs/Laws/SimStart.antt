@@ -4,7 +4,7 @@ use mathlib.Core.Path.{_≡_, refl, sym, ap, _∙_}
 use Prim.Native.Nat.{ℕ}
 use lib.ListN.{length}
 use Rattle.reader.specs.Parse.{Parsed}
-use Rattle.reader.specs.Reading.{read}
+use Rattle.entries.specs.Reading.{read}
 use Rattle.history.specs.History.{History}
 use Rattle.history.specs.Replay.{fresh}
 use Rattle.replayer.specs.Laws.Left.{left-opened}

@@ -14,9 +14,9 @@ use Rattle.codec.specs.Laws.Decide.{never}
 use Rattle.codec.specs.Laws.Encode.{op-reads, op-writes, op-object, op-value}
 use Rattle.codec.specs.Kind.{reads, writes}
 use Rattle.codec.specs.Limit.{maxTasks}
-use Rattle.reader.specs.Bytes.{entryLength}
-use Rattle.reader.specs.Reading.{read}
-use Rattle.reader.specs.Recording.{Entry as FileEntry}
+use Rattle.entries.specs.Bytes.{entryLength}
+use Rattle.entries.specs.Reading.{read}
+use Rattle.entries.specs.Recording.{Entry as FileEntry}
 use Rattle.history.specs.Entry.{Act, Entry}
 use Rattle.history.specs.History.{History, count, At}
 use Rattle.history.specs.Access.{Access}

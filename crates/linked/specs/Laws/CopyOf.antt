@@ -12,10 +12,10 @@ use Rattle.codec.specs.Store.{store}
 use Rattle.codec.specs.Laws.Store.{store-none}
 use Rattle.reader.specs.Calls.{bodySpan, bodyPart, bodyChecked}
 use Rattle.reader.specs.Parse.{Parsed, parse}
-use Rattle.reader.specs.Part.{part}
+use Rattle.entries.specs.Part.{part}
 use Rattle.reader.specs.Laws.Positive.{parse-positive}
-use Rattle.reader.specs.Reading.{Reading, refused, read, stop}
-use Rattle.reader.specs.Laws.Reading.{Positive}
+use Rattle.entries.specs.Reading.{Reading, refused, read, stop}
+use Rattle.entries.specs.Laws.Reading.{Positive}
 use Rattle.linked.specs.CopyOf.{refusedCopy, copied, copyOf}
 
 -- a body that is not refused

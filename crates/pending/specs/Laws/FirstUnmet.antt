@@ -11,21 +11,21 @@ use Rattle.codec.specs.declared.Position.{Position}
 use Rattle.codec.specs.Laws.Decide.{passes, fails, split}
 use Rattle.codec.specs.Number.{inBody, misplaced}
 use Rattle.codec.specs.Limit.{maxTasks}
-use Rattle.reader.specs.declared.Checked.{Checked}
-use Rattle.reader.specs.declared.Limits.{Limits}
-use Rattle.reader.specs.declared.entry.Found.{Found}
-use Rattle.reader.specs.declared.entry.Found.the-variants.{Access as FoundAccess, Refused as FoundRefused}
-use Rattle.reader.specs.Answers.{found}
-use Rattle.reader.specs.Laws.Answers.{found-refused}
-use Rattle.reader.specs.Bytes.{entryLength}
-use Rattle.reader.specs.Laws.Entry.{entry-ended}
-use Rattle.reader.specs.Laws.EntryCase.{EntryCase, More, last, more, entry-case, found-entry}
-use Rattle.reader.specs.OrderingAt.{orderingAt}
-use Rattle.reader.specs.Laws.OrderingAt.{more-at}
-use Rattle.reader.specs.Part.{part}
-use Rattle.reader.specs.Laws.Part.{part-drop, part-length}
-use Rattle.reader.specs.Reading.{Reading, refused, read, stop}
-use Rattle.reader.specs.Recording.{Entry}
+use Rattle.entries.specs.declared.Checked.{Checked}
+use Rattle.entries.specs.declared.Limits.{Limits}
+use Rattle.entries.specs.declared.entry.Found.{Found}
+use Rattle.entries.specs.declared.entry.Found.the-variants.{Access as FoundAccess, Refused as FoundRefused}
+use Rattle.entries.specs.Answers.{found}
+use Rattle.entries.specs.Laws.Answers.{found-refused}
+use Rattle.entries.specs.Bytes.{entryLength}
+use Rattle.entries.specs.Laws.Entry.{entry-ended}
+use Rattle.entries.specs.Laws.EntryCase.{EntryCase, More, last, more, entry-case, found-entry}
+use Rattle.entries.specs.OrderingAt.{orderingAt}
+use Rattle.entries.specs.Laws.OrderingAt.{more-at}
+use Rattle.entries.specs.Part.{part}
+use Rattle.entries.specs.Laws.Part.{part-drop, part-length}
+use Rattle.entries.specs.Reading.{Reading, refused, read, stop}
+use Rattle.entries.specs.Recording.{Entry}
 use Rattle.pending.specs.declared.TaskRun.{TaskRun}
 use Rattle.pending.specs.declared.next.Next.{Next}
 use Rattle.pending.specs.declared.next.Next.the-variants.{Open, Held, Refused}

@@ -5,23 +5,23 @@ use mathlib.Core.List.{List}
 use Prim.Native.Nat.{ℕ, _+_, _≤_, _<_}
 use native.Mathlib.Omega.{arith}
 use lib.ListN.{length}
-use Rattle.reader.specs.declared.Checked.{Checked}
-use Rattle.reader.specs.declared.entry.Found.{Found}
-use Rattle.reader.specs.declared.entry.Found.the-variants.{Access as FoundAccess, Refused as FoundRefused}
-use Rattle.reader.specs.Reading.{stop, Reading, refused, read}
+use Rattle.entries.specs.declared.Checked.{Checked}
+use Rattle.entries.specs.declared.entry.Found.{Found}
+use Rattle.entries.specs.declared.entry.Found.the-variants.{Access as FoundAccess, Refused as FoundRefused}
+use Rattle.entries.specs.Reading.{stop, Reading, refused, read}
 use Rattle.codec.specs.declared.Op.{Op}
 use Rattle.codec.specs.Laws.Decide.{passes, fails, split}
 use Rattle.codec.specs.Kind.{isAccess}
 use Rattle.codec.specs.Number.{inBody}
-use Rattle.reader.specs.Bytes.{entryLength}
-use Rattle.reader.specs.Laws.Bytes.{entry-long}
-use Rattle.reader.specs.Laws.Entry.{entry-access}
-use Rattle.reader.specs.Laws.EntryCase.{Entered, entry-entered}
-use Rattle.reader.specs.Part.{part}
-use Rattle.reader.specs.Laws.Part.{part-length}
-use Rattle.reader.specs.Laws.Positive.{entry-positive}
-use Rattle.reader.specs.Laws.Reading.{Positive}
-use Rattle.reader.specs.Recording.{Entry}
+use Rattle.entries.specs.Bytes.{entryLength}
+use Rattle.entries.specs.Laws.Bytes.{entry-long}
+use Rattle.entries.specs.Laws.Entry.{entry-access}
+use Rattle.entries.specs.Laws.EntryCase.{Entered, entry-entered}
+use Rattle.entries.specs.Part.{part}
+use Rattle.entries.specs.Laws.Part.{part-length}
+use Rattle.entries.specs.Laws.Positive.{entry-positive}
+use Rattle.entries.specs.Laws.Reading.{Positive}
+use Rattle.entries.specs.Recording.{Entry}
 use Rattle.pending.specs.declared.TaskRun.{TaskRun}
 use Rattle.pending.specs.declared.Run.{Run}
 use Rattle.pending.specs.declared.next.Next.the-variants.{Open, Held, Refused}

@@ -14,8 +14,8 @@ use Rattle.history.specs.Laws.OneMore.{oneMore-own, oneMore-other}
 use Rattle.history.specs.Replay.{oneMore}
 use Rattle.codec.specs.Bit.{bit}
 use Rattle.reader.specs.Parse.{Parsed, parse}
-use Rattle.reader.specs.Reading.{read as reads}
-use Rattle.reader.specs.Recording.{Recording}
+use Rattle.entries.specs.Reading.{read as reads}
+use Rattle.entries.specs.Recording.{Recording}
 use Rattle.replayer.specs.declared.Stepped.{Stepped}
 use Rattle.scheduler.specs.Finish.{Play, finishedOf}
 use Rattle.scheduler.specs.Laws.Finish.{Playing}

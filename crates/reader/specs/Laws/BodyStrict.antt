@@ -20,15 +20,15 @@ use Rattle.codec.specs.Laws.Field.{bytes-drop}
 use Rattle.codec.specs.Number.{misplaced, inBody}
 use Rattle.codec.specs.Laws.Roundtrip.{FitsPosition, FitsOp}
 use Rattle.codec.specs.Laws.Strict.{Begins, record-begins}
-use Rattle.reader.specs.declared.Checked.{Checked}
-use Rattle.reader.specs.declared.Limits.{Limits}
-use Rattle.reader.specs.Reading.{Reading, refused, read, stop, mapped, andThen}
-use Rattle.reader.specs.Recording.{Entry}
-use Rattle.reader.specs.Bytes.{orderingsBytes, entryBytes, entryLength, bodyBytes}
-use Rattle.reader.specs.Laws.Bytes.{entry-long}
+use Rattle.entries.specs.declared.Checked.{Checked}
+use Rattle.entries.specs.declared.Limits.{Limits}
+use Rattle.entries.specs.Reading.{Reading, refused, read, stop, mapped, andThen}
+use Rattle.entries.specs.Recording.{Entry}
+use Rattle.entries.specs.Bytes.{orderingsBytes, entryBytes, entryLength, bodyBytes}
+use Rattle.entries.specs.Laws.Bytes.{entry-long}
 use Rattle.reader.specs.Range.{PositionIn, OpIn, EntryIn, EntriesIn}
-use Rattle.reader.specs.Entry.{after, orderingOk, accessOk, onRecord, accessOf, entryFrom, entryAt}
-use Rattle.reader.specs.Body.{bodyFrom, bodyEntries}
+use Rattle.entries.specs.Entry.{after, orderingOk, accessOk, onRecord, accessOf, entryFrom, entryAt}
+use Rattle.entries.specs.Body.{bodyFrom, bodyEntries}
 
 -- an entry: the bytes begin with it
 abbrev Came : Limits → List ℕ → Reading Entry → Type 0

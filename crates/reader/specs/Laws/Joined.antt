@@ -8,12 +8,12 @@ use lib.ListN.{length}
 use borrow.Author.Tests.{eq-eqb}
 use Rattle.codec.specs.Encode.{head, section}
 use Rattle.codec.specs.Field.{Bytes}
-use Rattle.reader.specs.declared.Limits.{Limits}
-use Rattle.reader.specs.Reading.{read, stop}
-use Rattle.reader.specs.Recording.{Entry, Recording}
-use Rattle.reader.specs.Bytes.{sectionsBytes, bytesOf}
+use Rattle.entries.specs.declared.Limits.{Limits}
+use Rattle.entries.specs.Reading.{read, stop}
+use Rattle.entries.specs.Recording.{Entry, Recording}
+use Rattle.entries.specs.Bytes.{sectionsBytes, bytesOf}
 use Rattle.reader.specs.Range.{BodiesIn, HeadIn}
-use Rattle.reader.specs.Body.{bodyEntries, walkOf, judged, tally}
+use Rattle.entries.specs.Body.{bodyEntries, walkOf, judged, tally}
 use Rattle.reader.specs.Laws.BodyStrict.{body-strict}
 use Rattle.reader.specs.Parse.{parse}
 use Rattle.reader.specs.Laws.Roundtrip.{parse-back, spansOf}

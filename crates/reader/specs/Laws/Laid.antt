@@ -15,9 +15,9 @@ use Rattle.codec.specs.Decode.{recordOf}
 use Rattle.codec.specs.Field.{field2, field4}
 use Rattle.codec.specs.Head.{headLength, headStep, valueBehind}
 use Rattle.codec.specs.Number.{short, range}
-use Rattle.reader.specs.declared.Checked.{Checked}
+use Rattle.entries.specs.declared.Checked.{Checked}
 use Rattle.reader.specs.declared.layout.Layout.{Layout}
-use Rattle.reader.specs.Reading.{Reading, refused, read, stop, mapped}
+use Rattle.entries.specs.Reading.{Reading, refused, read, stop, mapped}
 use Rattle.reader.specs.Section.{TaskBody}
 use Rattle.reader.specs.Parse.{HeadFields, Parsed, parsedOf, ownersOf, valuesOf, allBelow, sizesOk, onHead, headAt, sectionsAfter, parse}
 use Rattle.reader.specs.Laws.HeadCode.{Headed, head-facts, owners-count}

@@ -19,18 +19,18 @@ use Rattle.codec.specs.Limit.{maxTasks, maxObjects}
 use Rattle.codec.specs.Laws.Limit.{within-test}
 use Rattle.codec.specs.Number.{short, inBody}
 use Rattle.codec.specs.Laws.Roundtrip.{FitsOp, read-ordering, read-access, read-section, read-head}
-use Rattle.reader.specs.declared.Checked.{Checked}
-use Rattle.reader.specs.declared.Limits.{Limits}
+use Rattle.entries.specs.declared.Checked.{Checked}
+use Rattle.entries.specs.declared.Limits.{Limits}
 use Rattle.reader.specs.declared.Span.{Span}
-use Rattle.reader.specs.Reading.{read, stop}
-use Rattle.reader.specs.Recording.{Entry, Recording}
-use Rattle.reader.specs.Bytes.{orderingsBytes, entryBytes, entryLength, bodyBytes, sectionsBytes, bytesOf}
-use Rattle.reader.specs.Laws.Bytes.{entry-length, entry-some}
+use Rattle.entries.specs.Reading.{read, stop}
+use Rattle.entries.specs.Recording.{Entry, Recording}
+use Rattle.entries.specs.Bytes.{orderingsBytes, entryBytes, entryLength, bodyBytes, sectionsBytes, bytesOf}
+use Rattle.entries.specs.Laws.Bytes.{entry-length, entry-some}
 use Rattle.reader.specs.Range.{PositionIn, OpIn, OrderingsIn, EntryIn, EntriesIn, BodyIn, BodiesIn, AllUnder, HeadIn, InRange}
-use Rattle.reader.specs.Entry.{orderingOk, accessOk, onRecord, accessOf, entryAt}
-use Rattle.reader.specs.Laws.Entry.{entry-ordering, entry-step}
-use Rattle.reader.specs.Body.{bodyEntries}
-use Rattle.reader.specs.Laws.Body.{body-end, body-step}
+use Rattle.entries.specs.Entry.{orderingOk, accessOk, onRecord, accessOf, entryAt}
+use Rattle.entries.specs.Laws.Entry.{entry-ordering, entry-step}
+use Rattle.entries.specs.Body.{bodyEntries}
+use Rattle.entries.specs.Laws.Body.{body-end, body-step}
 use Rattle.reader.specs.Section.{TaskBody, spanOf, bodyStart, taken, sectionBody, onSection, sectionAt, sectionsOf}
 use Rattle.reader.specs.Parse.{ownersOf, valuesOf, allBelow, sizesOk, onHead, headAt, sectionsAfter, parse}
 

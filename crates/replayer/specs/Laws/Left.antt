@@ -7,18 +7,18 @@ use native.Mathlib.Omega.{arith}
 use lib.ListN.{length, getD, drop}
 use Rattle.codec.specs.Number.{inBody}
 use Rattle.codec.specs.Limit.{maxTasks}
-use Rattle.reader.specs.declared.Limits.{Limits}
+use Rattle.entries.specs.declared.Limits.{Limits}
 use Rattle.reader.specs.Laws.Bodies.{parse-bodies}
-use Rattle.reader.specs.Body.{bodyEntries}
-use Rattle.reader.specs.Laws.Body.{body-end, body-step}
-use Rattle.reader.specs.Bytes.{entryLength}
+use Rattle.entries.specs.Body.{bodyEntries}
+use Rattle.entries.specs.Laws.Body.{body-end, body-step}
+use Rattle.entries.specs.Bytes.{entryLength}
 use Rattle.reader.specs.Calls.{noSpan}
-use Rattle.reader.specs.Entry.{entryAt}
+use Rattle.entries.specs.Entry.{entryAt}
 use Rattle.reader.specs.Parse.{Parsed, parse}
-use Rattle.reader.specs.Part.{part}
-use Rattle.reader.specs.Laws.Part.{part-drop}
-use Rattle.reader.specs.Reading.{Reading, refused, read, stop, mapped, andThen}
-use Rattle.reader.specs.Recording.{Entry}
+use Rattle.entries.specs.Part.{part}
+use Rattle.entries.specs.Laws.Part.{part-drop}
+use Rattle.entries.specs.Reading.{Reading, refused, read, stop, mapped, andThen}
+use Rattle.entries.specs.Recording.{Entry}
 use Rattle.pending.specs.declared.TaskRun.{TaskRun}
 use Rattle.pending.specs.declared.Run.{Run}
 use Rattle.pending.specs.Run.{taskAt, limitsOf, advanced, movedOf}

@@ -15,7 +15,7 @@ use Rattle.reader.specs.Laws.Laid.{Laid, laid-read, laid-refused, Valued, parse
 use Rattle.reader.specs.Layout.{layoutOf}
 use Rattle.reader.specs.Parse.{Parsed, parse}
 use Rattle.reader.specs.Laws.Positive.{parse-positive}
-use Rattle.reader.specs.Reading.{Reading, refused, read}
+use Rattle.entries.specs.Reading.{Reading, refused, read}
 use Rattle.reader.specs.Starting.{startingIn}
 use Rattle.reader.specs.Laws.Starting.{starting-there}
 use Rattle.codec.specs.Number.{entries as wrongLength}

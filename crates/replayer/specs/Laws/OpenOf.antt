@@ -16,7 +16,7 @@ use Rattle.reader.specs.Calls.{noSpan}
 use Rattle.reader.specs.Laws.Laid.{values-count, Valued, parse-valued}
 use Rattle.reader.specs.Parse.{Parsed, parse}
 use Rattle.reader.specs.Laws.Positive.{parse-positive}
-use Rattle.reader.specs.Reading.{Reading, refused, read}
+use Rattle.entries.specs.Reading.{Reading, refused, read}
 use Rattle.reader.specs.Laws.Standing.{Standing, parse-stands}
 use Rattle.pending.specs.declared.TaskRun.{TaskRun}
 use Rattle.codec.specs.Number.{entries as wrongLength}

@@ -5,9 +5,9 @@ use Rattle.codec.specs.Limit.{isWithin}
 use Rattle.codec.specs.Encode.{start, startTwo, headObject, headObjects, head, section, ordering, opOf, access}
 use Rattle.codec.specs.Kind.{storesValue}
 use Rattle.codec.specs.Field.{le2, le4, field2, field4}
-use Rattle.reader.specs.Bytes.{orderingsBytes, entryBytes, bodyBytes, sectionsBytes, bytesOf}
-use Rattle.reader.specs.Entry.{orderingOk, accessOk, accessOf, onRecord, entryFrom, entryAt}
-use Rattle.reader.specs.Body.{bodyFrom, bodyEntries}
+use Rattle.entries.specs.Bytes.{orderingsBytes, entryBytes, bodyBytes, sectionsBytes, bytesOf}
+use Rattle.entries.specs.Entry.{orderingOk, accessOk, accessOf, onRecord, entryFrom, entryAt}
+use Rattle.entries.specs.Body.{bodyFrom, bodyEntries}
 use Rattle.reader.specs.Section.{taken, sectionBody, onSection, sectionAt, sectionsOf}
 use Rattle.reader.specs.Parse.{ownersOf, valuesOf, allBelow, sizesOk, onHead, headAt, sectionsAfter, parse}
 use Rattle.reader.specs.Calls.{checkedOf}

@@ -5,9 +5,9 @@ use Rattle.codec.specs.Field.{le2, le4, field2, field4}
 use Rattle.codec.specs.Kind.{storesValue}
 use Rattle.codec.specs.Decode.{recordOf, headOf, sectionOf as sectionRecordOf, bodyOf as fieldsOf}
 use Rattle.codec.specs.Store.{store}
-use Rattle.reader.specs.Bytes.{orderingsBytes, entryBytes}
-use Rattle.reader.specs.Entry.{orderingOk, accessOk, accessOf as accessRecordOf, onRecord, entryFrom, entryAt as readEntry}
-use Rattle.reader.specs.Body.{bodyFrom, bodyEntries, tally, judged, walkOf}
+use Rattle.entries.specs.Bytes.{orderingsBytes, entryBytes}
+use Rattle.entries.specs.Entry.{orderingOk, accessOk, accessOf as accessRecordOf, onRecord, entryFrom, entryAt as readEntry}
+use Rattle.entries.specs.Body.{bodyFrom, bodyEntries, tally, judged, walkOf}
 use Rattle.reader.specs.Section.{taken, sectionBody, onSection, sectionAt, sectionsOf}
 use Rattle.reader.specs.Parse.{ownersOf, valuesOf, allBelow, sizesOk, onHead, headAt, sectionsAfter, parse}
 use Rattle.reader.specs.Calls.{checkedOf}

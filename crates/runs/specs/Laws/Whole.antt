@@ -5,12 +5,12 @@ use Rattle.codec.specs.Encode.{ordering, opOf, access, start, startTwo, head, h
 use Rattle.codec.specs.Field.{le2, le4, field2, field4}
 use Rattle.codec.specs.Kind.{storesValue, writes}
 use Rattle.codec.specs.Store.{store}
-use Rattle.reader.specs.Body.{walkOf, judged, tally, bodyEntries, bodyFrom}
-use Rattle.reader.specs.Bytes.{orderingsBytes, entryBytes, bodyBytes, sectionsBytes, bytesOf}
+use Rattle.entries.specs.Body.{walkOf, judged, tally, bodyEntries, bodyFrom}
+use Rattle.entries.specs.Bytes.{orderingsBytes, entryBytes, bodyBytes, sectionsBytes, bytesOf}
 use Rattle.reader.specs.Calls.{checkedOf}
-use Rattle.reader.specs.Entry.{entryAt, entryFrom, onRecord, accessOf as accessOf-reader-entry, accessOk, orderingOk}
+use Rattle.entries.specs.Entry.{entryAt, entryFrom, onRecord, accessOf as accessOf-reader-entry, accessOk, orderingOk}
 use Rattle.reader.specs.Parse.{allBelow, parse, headAt, onHead, sectionsAfter, ownersOf, valuesOf, sizesOk}
-use Rattle.reader.specs.Part.{part}
+use Rattle.entries.specs.Part.{part}
 use Rattle.reader.specs.Section.{sectionsOf, sectionAt, onSection, sectionBody, taken}
 use Rattle.recorder.specs.AccessOf.{accessOf, accessNumber, checked, accepted, refused}
 use Rattle.opening.specs.OpenOf.{openOf, opened, openNumber, entriesOk}

@@ -12,7 +12,7 @@ use borrow.Author.Tests.{lt-ltb, le-ltb}
 use Rattle.codec.specs.declared.Op.{Op}
 use Rattle.codec.specs.Laws.Zeros.{zeros-at}
 use Rattle.codec.specs.Limit.{maxTasks}
-use Rattle.reader.specs.declared.Limits.{Limits}
+use Rattle.entries.specs.declared.Limits.{Limits}
 use Rattle.pending.specs.declared.Run.{Run}
 use Rattle.pending.specs.declared.TaskRun.{TaskRun}
 use Rattle.pending.specs.declared.next.Next.{Next}

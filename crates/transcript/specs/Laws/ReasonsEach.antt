@@ -9,10 +9,10 @@ use native.Mathlib.Omega.{arith}
 use lib.ListN.{length, getD}
 use borrow.Author.Tests.{ltb-true}
 use Rattle.codec.specs.declared.Op.{Op}
-use Rattle.reader.specs.Bytes.{entryLength}
+use Rattle.entries.specs.Bytes.{entryLength}
 use Rattle.reader.specs.Parse.{Parsed, parse}
-use Rattle.reader.specs.Reading.{read}
-use Rattle.reader.specs.Recording.{Entry}
+use Rattle.entries.specs.Reading.{read}
+use Rattle.entries.specs.Recording.{Entry}
 use Rattle.pending.specs.declared.Run.{Run}
 use Rattle.replayer.specs.Laws.Left.{Left, left-entry, left-own, left-other, left-opened}
 use Rattle.pending.specs.Laws.Moved.{moved-own, moved-other, moved-tasks}

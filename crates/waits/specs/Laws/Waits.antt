@@ -7,8 +7,8 @@ use native.Mathlib.Numerals.{add-one}
 use native.Mathlib.Omega.{arith}
 use lib.ListN.{length, length-append}
 use borrow.Author.Tests.{lt-ltb, le-ltb}
-use Rattle.reader.specs.declared.Limits.{Limits}
-use Rattle.reader.specs.OrderingAt.{orderingAt}
+use Rattle.entries.specs.declared.Limits.{Limits}
+use Rattle.entries.specs.OrderingAt.{orderingAt}
 use Rattle.pending.specs.declared.Run.{Run}
 use Rattle.pending.specs.declared.TaskRun.{TaskRun}
 use Rattle.pending.specs.FirstUnmet.{unmetAt, Holds}

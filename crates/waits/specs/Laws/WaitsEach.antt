@@ -8,8 +8,8 @@ use lib.Dec.{leb}
 use Rattle.codec.specs.declared.Position.{Position}
 use Rattle.codec.specs.Kind.{orderingKind, lengthOf}
 use Rattle.codec.specs.Laws.Decide.{passes, fails, split}
-use Rattle.reader.specs.Reading.{read}
-use Rattle.reader.specs.Recording.{Entry}
+use Rattle.entries.specs.Reading.{read}
+use Rattle.entries.specs.Recording.{Entry}
 use Rattle.pending.specs.declared.Run.{Run}
 use Rattle.pending.specs.declared.TaskRun.{TaskRun}
 use Rattle.pending.specs.Met.{allMet}

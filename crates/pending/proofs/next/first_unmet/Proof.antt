@@ -2,10 +2,10 @@ use native.Mathlib.Omega.{arith}
 use Prim.Native.Nat.{ℕ, _-_}
 use denote.Ref.{now}
 use borrow.Author.Needs.{needs}
-use Rattle.reader.specs.declared.Limits.{Limits}
+use Rattle.entries.specs.declared.Limits.{Limits}
 use Rattle.pending.specs.FirstUnmet.{Ahead}
 use Rattle.pending.specs.Laws.FirstUnmet.{Passing, ahead-turn, stops-before, stops-behind}
-use Rattle.reader.specs.OrderingAt.{orderingAt}
+use Rattle.entries.specs.OrderingAt.{orderingAt}
 use Rattle.pending.proofs.next.first_unmet.Statement.{statement}
 use Rattle.pending.proofs.next.first_unmet.Tie as tie
 

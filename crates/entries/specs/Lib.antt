@@ -1,0 +1,9 @@
+pub mod Answers
+pub mod Body
+pub mod Bytes
+pub mod Entry
+pub mod OrderingAt
+pub mod Part
+pub mod Reading
+pub mod Recording
+pub mod Laws
