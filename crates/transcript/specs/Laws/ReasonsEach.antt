@@ -9,6 +9,7 @@ use native.Mathlib.Omega.{arith}
 use lib.ListN.{length, getD}
 use borrow.Author.Tests.{ltb-true}
 use Rattle.codec.specs.declared.Op.{Op}
+use Rattle.codec.specs.Limit.{maxTasks}
 use Rattle.entries.specs.Bytes.{entryLength}
 use Rattle.reader.specs.Parse.{Parsed, parse}
 use Rattle.entries.specs.Reading.{read}
@@ -58,7 +59,7 @@ module _ (b : List ℕ) (x : Play) (w : Playing b x) (t : ℕ) (op : Op) (next :
       let y = k .entry .reads in
       let d : k .entry .entry ≡ e = cc in
       let n : next ≡ taskAt (x .run .runs) t .place + entryLength e = k .entry .next ∙ ap (λ (f : Entry). taskAt (x .run .runs) t .place + entryLength f) d in
-      let h : t < 16 = omega (arith, k .below, sound-facts (x .run) (length b) (w .sound) .few-tasks) in
+      let h : t < maxTasks = omega (arith, k .below, sound-facts (x .run) (length b) (w .sound) .few-tasks) in
       record {
         entries = es;
         left = rw n (left-own (x .run) b t e es (w .shaped) h l);
