@@ -16,7 +16,7 @@ fn same<T: PartialEq + Debug>(what: &str, ours: T, theirs: T) -> Same {
     Err(format!("{what}: ours {ours:?}, theirs {theirs:?}"))
 }
 
-/// Of two lists only the first place where they differ is told.
+/// Of two lists only the first place where they differ is reported.
 fn same_list<T: PartialEq + Debug>(what: &str, ours: &[T], theirs: &[T]) -> Same {
     same(&format!("{what}, length"), ours.len(), theirs.len())?;
     match ours.iter().zip(theirs).position(|(a, b)| a != b) {
@@ -190,7 +190,7 @@ impl Both {
         Ok(theirs.word)
     }
 
-    /// Whether a run has finished, and the order in which it would be played, into an output of so many bytes.
+    /// Whether a run has finished, and the order in which it would be played, into an output of this length.
     pub fn schedule(&mut self, run: &replayer::Run, bytes: &[u8], mut out: Vec<u8>) -> Same {
         self.answers += 2;
         let places = ours::places_of(run);

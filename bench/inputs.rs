@@ -255,7 +255,7 @@ impl Random {
     }
 }
 
-/// One access more behind the last body, whose section record is at `section`.
+/// One more access after the last body, whose section record is at `section`.
 fn lengthen(bytes: &mut Vec<u8>, section: usize, records: &[usize]) {
     bytes.extend(fields(records));
     let count = u16::from_le_bytes([bytes[section + 6], bytes[section + 7]]).wrapping_add(1);

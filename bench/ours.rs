@@ -298,7 +298,7 @@ pub fn script(script: &Script, memory: &mut [u32], out: &mut [u8]) -> u64 {
     }
 }
 
-/// All sections, one behind the other: number, task, offset and bytes written. Task t's log ends in `logs` at `ends[t]`.
+/// All sections, one after the other: number, task, offset and bytes written. Task t's log ends in `logs` at `ends[t]`.
 pub fn pack(state: &State, logs: &[u8], ends: &[usize], out: &mut [u8]) -> Answer {
     let mut answer = [0; 6];
     unsafe {
@@ -332,7 +332,7 @@ pub fn replay_to_end(bytes: &[u8], memory: &mut [u32]) -> Answer {
     answer
 }
 
-/// An opening and steps of the lowest ready task until there is none: a digest of them, or the number of a refused opening.
+/// An opening and steps of the lowest ready task until none is ready: a digest of them, or the number of a refused opening.
 pub fn replay(bytes: &[u8], memory: &mut [u32]) -> u64 {
     unsafe {
         wk_replay(

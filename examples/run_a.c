@@ -33,7 +33,7 @@ static void accepted(const char *call, const size_t answer[WK_ANSWER])
     }
 }
 
-/* One access; what it writes goes behind its task's log. The library looks at the room that is lent, so no test is needed here. */
+/* One access; what it writes is appended to its task's log. The library checks the room that is lent, so no test is needed here. */
 static void record(size_t task, size_t object, uint32_t sort, uint32_t value)
 {
     size_t answer[WK_ANSWER];
@@ -43,7 +43,7 @@ static void record(size_t task, size_t object, uint32_t sort, uint32_t value)
     log_len[task] += answer[WK_ACCESS_WRITTEN];
 }
 
-/* The head is in `recording` already; the sections go behind it. Returns the recording's bytes. */
+/* The head is in `recording` already; the sections go after it. Returns the recording's bytes. */
 static size_t pack(size_t head)
 {
     uint8_t joined[TASKS * LOG_BYTES];

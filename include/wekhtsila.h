@@ -63,12 +63,12 @@ extern "C" {
 #define WK_ERR_NO_ROOM 9      /* the output is too short for what would be written */
 #define WK_ERR_SHORT 10       /* the bytes end in the middle of a record */
 #define WK_ERR_MALFORMED 11   /* a record's kind is unknown, or its length is not that of its kind */
-#define WK_ERR_MISPLACED 12   /* a record stands where it may not, or bytes stand behind the last section */
+#define WK_ERR_MISPLACED 12   /* a record of this kind is not allowed here, or there are bytes after the last section */
 #define WK_ERR_RANGE 13       /* a number in a record is out of range */
 #define WK_ERR_IN_BODY 14     /* a section's body is cut short, or has another count of accesses than its section says */
 #define WK_ERR_FINISHED 15    /* the task has no access left to play */
 #define WK_ERR_HELD 16        /* an ordering before the task's next access is not met yet */
-#define WK_ERR_UNSOUND 17     /* the state or run that was handed in is none that the library made */
+#define WK_ERR_UNSOUND 17     /* the state or run that was passed in is not one that the library made */
 #define WK_ERR_ENDS 21        /* wk_pack: the ends fall, pass the logs or are not one for each task */
 
 /* The sort of an access. */
@@ -107,8 +107,8 @@ extern "C" {
 /* ---- Making a recording ---- */
 
 /*
- * Opens a recording of so many tasks and objects: the memory is set to the starting values, the head is written to the start of `out`
- * (WK_HEAD_BYTES), and the arrays hold the state. `owners` and `starts` have an entry for each object, and so has `memory`.
+ * Opens a recording with this number of tasks and objects: sets the memory to the starting values, writes the head to the start of `out`
+ * (WK_HEAD_BYTES), and puts the state into the arrays. `owners`, `starts` and `memory` have one entry for each object.
  * Refused with 1, 2, 3, 4, 9 in this order; the arrays are then all zero, which no later call takes.
  */
 #define WK_OPEN_NUMBER 0
@@ -119,7 +119,7 @@ void wk_open(size_t tasks, size_t objects, const uint8_t *owners, size_t owners_
 
 /*
  * One access: reads or writes `memory` at the object, moves the state on, and writes the access with the orderings before it to the
- * start of `out`. These bytes go behind the task's log, which the caller keeps. The value passed with a read is ignored.
+ * start of `out`. The caller appends these bytes to the task's log. The value passed with a read is ignored.
  * Refused with 17, 5, 6, 7, 8, 3, 9 in this order; state, memory and output are then as before, and the call may be made again.
  */
 #define WK_ACCESS_NUMBER 0
@@ -142,7 +142,7 @@ void wk_section(const uint16_t halves[WK_HALVES], const uint32_t words[WK_WORDS]
                 uint8_t *out, size_t out_len, size_t answer[WK_ANSWER]);
 
 /*
- * The sections of all tasks in one call, one behind the other from the start of `out`. The logs stand one behind the other in `logs`,
+ * The sections of all tasks in one call, one after the other from the start of `out`. The logs are one after the other in `logs`,
  * and task t's log ends at ends[t]. All are checked before a byte is written.
  * Refused with 17, 21, what is wrong with a log (11 to 14), 9.
  */

@@ -1,5 +1,6 @@
--- A recorder state as 548 halves and 273 words. Halves: T, N, Last's task and number, Done and Took of each task, each object's case
--- (0 write-held, 1 read-held, 2 shared), each object's task. Words: G, Seen of each task, each object's share number.
+-- The recorder's state as two arrays of numbers, 548 of 16 bits ("halves") and 273 of 32 bits ("words"). Halves: T, N, Last's task and
+-- number, Done and Took of each task, each object's case (0 write-held, 1 read-held, 2 shared), each object's task. Words: G, Seen of
+-- each task, each object's share number.
 use mathlib.Core.Bool.{cond}
 use mathlib.Core.List.{List, _∷_, _++_}
 use Prim.Native.Nat.{ℕ, _+_}
@@ -14,8 +15,8 @@ use Rattle.tracker.specs.declared.State.{State}
 use Rattle.tracker.specs.State.{holderOf, shareOf, owned, position}
 use Rattle.pending.specs.Each.{each}
 
--- An object's record by its case, task and share number. A case above 2 means nothing: it is read as shared with share number 0, which
--- document 01 calls unsound, so that every call on it gives 17.
+-- An object's record from its case, task and share number. A case above 2 has no meaning: it is read as shared with share number 0, which
+-- document 01 calls unsound, so every call answers 17 if the object is below N.
 unfoldable pub recordOf : ℕ → ℕ → ℕ → ObjectRecord
 recordOf case task share = record {
   locality = cond (eqb case 0) (WriteExclusive task) (cond (eqb case 1) (ReadExclusive task) (ReadShared (cond (eqb case 2) share 0)));
@@ -24,11 +25,11 @@ recordOf case task share = record {
 abbrev pub recordIn : List ℕ → List ℕ → ℕ → ObjectRecord
 recordIn halves words i = recordOf (getD halves (36 + i) 0) (getD halves (292 + i) 0) (getD words (17 + i) 0)
 
--- 16 entries from a place on
+-- the 16 entries that start at an index
 abbrev pub entriesIn : List ℕ → ℕ → List ℕ
 entriesIn l at = each (λ (t : ℕ). getD l (at + t) 0) maxTasks
 
--- the state that a pair of arrays means
+-- the state that a pair of arrays stands for
 abbrev pub stateIn : List ℕ → List ℕ → State
 stateIn halves words = record {
   tasks = getD halves 0 0;
@@ -41,7 +42,7 @@ stateIn halves words = record {
   last = position (getD halves 2 0) (getD halves 3 0);
 }
 
--- the numbers of an object's record
+-- an object's record as numbers
 abbrev pub caseOf : Locality → ℕ
 caseOf (WriteExclusive task) = 0
 caseOf (ReadExclusive task) = 1
@@ -63,7 +64,7 @@ sharesOf records n = each (λ (i : ℕ). shareOf (localityAt records i)) n
 abbrev pub firstOf : List ℕ → ℕ → List ℕ
 firstOf l n = each (λ (t : ℕ). getD l t 0) n
 
--- the numbers that a state is stored as
+-- the numbers a state is stored as
 abbrev pub halvesOf : State → List ℕ
 halvesOf s =
     s .tasks ∷ s .objects ∷ s .last .task ∷ s .last .number
@@ -72,6 +73,6 @@ halvesOf s =
 abbrev pub wordsOf : State → List ℕ
 wordsOf s = s .shares ∷ (firstOf (s .seen) maxTasks ++ sharesOf (s .records) maxObjects)
 
--- an array after a call that moves the state: a refused one leaves it, whatever numbers without a meaning it holds
+-- an array after a call that changes the state: a refused call leaves it as it was, even where it holds numbers that have no meaning
 unfoldable pub movedTo : ℕ → List ℕ → List ℕ → List ℕ
 movedTo number l numbers = cond (eqb number 0) (store l 0 numbers) l

@@ -8,7 +8,7 @@ use Rattle.pending.specs.declared.Run.{Run}
 use Rattle.pending.specs.Run.{taskAt}
 use Rattle.pending.specs.Each.{each}
 
--- the run that an array means
+-- the run that an array stands for
 abbrev pub taskIn : List ℕ → ℕ → TaskRun
 taskIn places t = record {
   place = getD places (2 + 4 * t) 0;
@@ -20,7 +20,7 @@ taskIn places t = record {
 abbrev pub runIn : List ℕ → Run
 runIn places = record { tasks = getD places 0 0; objects = getD places 1 0; runs = each (taskIn places) maxTasks }
 
--- the numbers that a run is stored as, first those of its first n tasks
+-- the numbers that a run is stored as: those of one task, of the first n tasks, and of the run
 abbrev pub taskPlaces : TaskRun → List ℕ
 taskPlaces x = x .place ∷ x .end ∷ x .done ∷ x .count ∷ []
 

@@ -1,9 +1,9 @@
-// The recordings of data/ played and compared: the runs of the bench that no theorem has, two that get stuck among them.
+// Plays the recordings of data/ and compares the output: runs that no theorem covers, among them two that get stuck.
 use transcript::MOST_REASONS;
 use transcript::space;
 use transcript::tell;
 
-// A recording's name, and then what the replay program writes of it on both streams.
+// Writes a recording's name and then what the replay program writes for it on both streams.
 fn play_file(path: &[u8]) {
     let mut bytes = [0u8; 65537];
     let file = input::from_file(b"cases", path, &mut bytes);

@@ -1,4 +1,4 @@
--- A test as a number: a bit of a word, or what it adds to a tally.
+-- A test as a number, 1 or 0: a bit of a word, or what it adds to a count.
 use mathlib.Core.Bool.{Bool, true, false}
 use Prim.Native.Nat.{ℕ}
 

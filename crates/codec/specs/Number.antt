@@ -37,15 +37,15 @@ full = 8
 abbrev pub noRoom : ℕ
 noRoom = 9
 
--- (a), (d): the record, or a section's body, is not all there
+-- (a), (d): part of the record, or of a section's body, is missing
 abbrev pub short : ℕ
 short = 10
 
--- (b), (c), (e): no such kind, or a wrong length
+-- (b), (c), (e): unknown kind or wrong length
 abbrev pub malformed : ℕ
 malformed = 11
 
--- (f): the kind may not stand here
+-- (f): this kind is not allowed here
 abbrev pub misplaced : ℕ
 misplaced = 12
 
@@ -57,11 +57,11 @@ range = 13
 abbrev pub inBody : ℕ
 inBody = 14
 
--- nothing left for this task
+-- this task has no accesses left
 abbrev pub finished : ℕ
 finished = 15
 
--- the task is held by an ordering
+-- the task is held up by an ordering
 abbrev pub held : ℕ
 held = 16
 
@@ -69,6 +69,6 @@ held = 16
 abbrev pub unsound : ℕ
 unsound = 17
 
--- ends of logs that fall, pass the logs or do not number T (document 02, F-8)
+-- the ends of the logs decrease, go past the logs, or are not T in number (document 02, F-8)
 abbrev pub ends : ℕ
 ends = 21

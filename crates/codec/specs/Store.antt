@@ -1,4 +1,4 @@
--- Bytes written over a list from a place on; what stands before and behind them is as it was.
+-- Bytes written into a list starting at an index; the bytes before and after them stay as they were.
 use mathlib.Core.List.{List}
 use Prim.Native.Nat.{ℕ}
 use lib.Seq.{sets}

@@ -18,21 +18,21 @@ pub const NO_SORT: u32 = 7;
 pub const FULL: u32 = 8;
 // 9: output too short.
 pub const NO_ROOM: u32 = 9;
-// 10: (a), (d): the record, or a section's body, is not all there.
+// 10: (a), (d): part of the record, or of a section's body, is missing.
 pub const SHORT: u32 = 10;
-// 11: (b), (c), (e): no such kind, or a wrong length.
+// 11: (b), (c), (e): unknown kind or wrong length.
 pub const MALFORMED: u32 = 11;
-// 12: (f): the kind may not stand here.
+// 12: (f): this kind is not allowed here.
 pub const MISPLACED: u32 = 12;
 // 13: (g): a number out of range.
 pub const RANGE: u32 = 13;
 // 14: (a), (d) against a body's end, and a wrong count of accesses.
 pub const IN_BODY: u32 = 14;
-// 15: nothing left for this task.
+// 15: this task has no accesses left.
 pub const FINISHED: u32 = 15;
-// 16: the task is held by an ordering.
+// 16: the task is held up by an ordering.
 pub const HELD: u32 = 16;
 // 17: unsound state or run.
 pub const UNSOUND: u32 = 17;
-// 21: ends of logs that fall, pass the logs or do not number T (document 02, F-8).
+// 21: the ends of the logs decrease, go past the logs, or are not T in number (document 02, F-8).
 pub const ENDS: u32 = 21;

@@ -1,4 +1,4 @@
--- The part of a list from a place up to another, as far as the list has it.
+-- The part of a list from one index up to another, as far as the list goes.
 use mathlib.Core.List.{List}
 use Prim.Native.Nat.{ℕ, _-_}
 use lib.ListN.{take, drop}

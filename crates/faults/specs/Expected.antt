@@ -1,4 +1,4 @@
--- What the next word of a line is to be.
+-- What the next word of a line has to be.
 use mathlib.Core.Bool.{Bool, false, cond, _||_}
 use Prim.Native.Nat.{ℕ}
 use lib.Dec.{eqb}
@@ -9,7 +9,7 @@ use Rattle.faults.specs.declared.expected.Expected.the-variants.{Tasks, 
 use Rattle.faults.specs.declared.expected.Form.{Form}
 use Rattle.faults.specs.declared.expected.Form.the-variants as form
 
--- what such a word looks like: a number, R or W; behind the last word there is none
+-- what such a word looks like: a number, R or W; after the last word nothing may follow
 abbrev pub formOf : Expected → Form
 formOf Tasks = form.Number
 formOf Objects = form.Number
@@ -33,7 +33,7 @@ hasForm form.Nothing f = false
 abbrev pub fitsAs : Expected → ℕ → Bool
 fitsAs e f = hasForm (formOf e) f
 
--- what is expected behind such a word; any number of owners and of starting values. Behind a letter that is no W comes the object of a
+-- what is expected after such a word; owners and starting values go on without end. After a letter other than W comes the object of a
 -- read
 abbrev pub behindOf : Expected → Expected
 behindOf Tasks = Objects

@@ -1,17 +1,17 @@
--- What a line of the text is: T and N, the owners, the starting values, an access.
+-- What a line of the text is: T and N, the owners, the starting values, or an access.
 use Rattle.faults.specs.declared.expected.Expected.{Expected}
 use Rattle.faults.specs.declared.expected.Expected.the-variants.{Tasks, Owner, Start, Task}
 use Rattle.faults.specs.declared.kind.Kind.{Kind}
 use Rattle.faults.specs.declared.kind.Kind.the-variants.{Sizes, Owners, Starts, Access}
 
--- what its first word is to be
+-- what its first word has to be
 abbrev pub firstOf : Kind → Expected
 firstOf Sizes = Tasks
 firstOf Owners = Owner
 firstOf Starts = Start
 firstOf Access = Task
 
--- what the line behind it is
+-- what the next line is
 abbrev pub kindAfter : Kind → Kind
 kindAfter Sizes = Owners
 kindAfter Owners = Starts

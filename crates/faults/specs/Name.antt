@@ -1,4 +1,4 @@
--- The names of what was expected: a word, or a line that is missing.
+-- The names of what was expected: a word or a missing line.
 use mathlib.Core.List.{List, [], _∷_}
 use Prim.Native.Nat.{ℕ}
 use Rattle.faults.specs.declared.expected.Expected.{Expected}
@@ -54,7 +54,7 @@ ownersWord = 116 ∷ 104 ∷ 101 ∷ 32 ∷ 111 ∷ 119 ∷ 110 ∷ 101 ∷ 114 
 abbrev pub startsWord : List ℕ
 startsWord = 116 ∷ 104 ∷ 101 ∷ 32 ∷ 115 ∷ 116 ∷ 97 ∷ 114 ∷ 116 ∷ 105 ∷ 110 ∷ 103 ∷ 32 ∷ 118 ∷ 97 ∷ 108 ∷ 117 ∷ 101 ∷ 115 ∷ []
 
--- a line that is missing
+-- a missing line
 abbrev pub missingName : Kind → List ℕ
 missingName Sizes = tasksWord
 missingName Owners = ownersWord

@@ -1,4 +1,5 @@
--- As what the line of a number is read: the lines that are not passed over are T and N, the owners, the starting values, and accesses.
+-- What the line with a given number is read as: blank lines and comments are skipped, the others are T and N, the owners, the starting
+-- values, and accesses.
 use mathlib.Core.Path.{_≡_}
 use mathlib.Core.Bool.{Bool, true, false, cond}
 use mathlib.Core.List.{List, [], _∷_}
@@ -13,7 +14,7 @@ use Rattle.faults.specs.declared.kind.Kind.the-variants.{Sizes}
 use Rattle.faults.specs.declared.reading.Place.{Place}
 use Rattle.faults.specs.Kind.{kindAfter}
 
--- what it is, whether it is there, and its bytes
+-- what the line is, whether the text has it, and its bytes
 pub record Reading : Type 0 where
   pub kind : Kind
   pub there : Bool
@@ -26,7 +27,7 @@ readingIn line k (l ∷ ls) = cond (eqb (l .number) line) (record { kind = k; th
 abbrev pub readingOf : List ℕ → ℕ → Reading
 readingOf text line = readingIn line Sizes (numbered 1 (linesOf text))
 
--- where it stands in the text
+-- where it is in the text
 pub record Stands (d : Reading) (text : List ℕ) (r : Place) : Type 0 where
   pub kind : r .kind ≡ d .kind
   pub there : r .there ≡ d .there
@@ -34,7 +35,7 @@ pub record Stands (d : Reading) (text : List ℕ) (r : Place) : Type 0 where
   pub ordered : r .from ≤ r .to
   pub within : r .to ≤ length text
 
--- N, as the first line gives it
+-- N as the first line gives it
 unfoldable pub objectsIn : List Line → ℕ
 objectsIn [] = 0
 objectsIn (l ∷ ls) = sizesOf (fieldsOf (l .bytes)) .objects

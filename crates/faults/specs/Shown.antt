@@ -1,4 +1,4 @@
--- A word as a message shows it: no more than 20 bytes, and `...` where it has more; a byte that is no visible character as ?.
+-- A word as a message shows it: at most 20 bytes, then `...` if it is longer; a byte that is not a visible character is shown as ?.
 use mathlib.Core.Bool.{cond, _&&_}
 use mathlib.Core.List.{List, [], _∷_, _++_, map}
 use Prim.Native.Nat.{ℕ}

@@ -9,18 +9,18 @@ use Rattle.faults.specs.declared.expected.Expected.{Expected}
 use Rattle.faults.specs.declared.stop.Stopped.{Stopped}
 use Rattle.faults.specs.Expected.{fitsAs, nextOf}
 
--- what was expected there, how many words were as expected, and the word, which is empty at the line's end
+-- what was expected there, how many words were as expected before it, and the word found, which is empty at the line's end
 pub record Stop : Type 0 where
   pub expected : Expected
   pub words : ℕ
   pub word : List ℕ
 
--- these words are left, behind so many
+-- with these words left, after a number of words that were as expected
 unfoldable pub stopOf : Expected → ℕ → List (List ℕ) → Stop
 stopOf e k [] = record { expected = e; words = k; word = [] }
 stopOf e k (w ∷ ws) = cond (fitsAs e (fieldOf w)) (stopOf (nextOf e (fieldOf w)) (k + 1) ws) (record { expected = e; words = k; word = w })
 
--- where it stopped, in a line
+-- where the reading of a line stopped
 pub record Stops (s : Stop) (line : List ℕ) (r : Stopped) : Type 0 where
   pub expected : r .expected ≡ s .expected
   pub words : r .words ≡ s .words

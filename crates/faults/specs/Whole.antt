@@ -1,4 +1,4 @@
--- Nothing is wrong with a line: its reading stopped at the line's end, where the end was expected, or behind as many owners or starting
+-- Nothing is wrong with a line: its reading stopped at the line's end, where the end was expected or after as many owners or starting
 -- values as there are objects.
 use mathlib.Core.Bool.{Bool, true, false, _&&_}
 use Prim.Native.Nat.{ℕ}

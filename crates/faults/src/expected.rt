@@ -1,11 +1,11 @@
-// What the next word of a line is to be.
+// What the next word of a line has to be.
 ghost use mathlib.Core.Path.{_≡_};
 ghost use Rattle.faults.specs.Expected.{formOf, isLetter, hasForm, behindOf, nextOf};
 use lines::fields::NONE;
 use lines::fields::READ;
 use lines::fields::WRITE;
 
-// The object of a read ends its line, and that of a write has a value behind it.
+// A read's line ends with its object; a write's has a value after it.
 pub(crate) enum Expected {
     Tasks,
     Objects,
@@ -19,7 +19,7 @@ pub(crate) enum Expected {
     End,
 }
 
-// What such a word looks like: a number, R or W; behind the last word there is none.
+// What such a word looks like: a number, R or W; after the last word nothing may follow.
 pub(crate) enum Form {
     Number,
     Letter,
@@ -64,7 +64,7 @@ pub(crate) fn fits(e: Expected, field: u64) -> bool
     }
 }
 
-// What is expected behind such a word. Behind a letter that is no W comes the object of a read.
+// What is expected after such a word. After a letter other than W comes the object of a read.
 fn behind(e: Expected) -> Expected
     ensures { λ r. ⌜ r ≡ behindOf e ⌝ }
 {
@@ -82,7 +82,7 @@ fn behind(e: Expected) -> Expected
     }
 }
 
-// What is expected behind a word's field.
+// What is expected next, given a word's field.
 pub(crate) fn next(e: Expected, field: u64) -> Expected
     ensures { λ r. ⌜ r ≡ nextOf e field ⌝ }
 {

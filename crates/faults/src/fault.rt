@@ -1,10 +1,10 @@
-// What is told of a fault, behind `line 7: expected `.
+// The message about a fault, after `line 7: expected `.
 ghost use mathlib.Core.List.{_++_};
 ghost use Prim.Native.Nat.{_+_, _≤_};
 ghost use lib.ListN.{length};
 ghost use Rattle.text.specs.Appended.{Appended};
 ghost use Rattle.faults.specs.Name.{nameOf};
-ghost use Rattle.faults.specs.FaultText.{foundLineEnd, wrongText, countText, endText, lineText, missingText, faultText};
+ghost use Rattle.faults.specs.FaultText.{foundLineEnd, wrongText, pluralOf, nounText, countText, endText, lineText, missingText, faultText};
 use crate::expected::Expected;
 use crate::kind::Kind;
 use crate::kind::first;
@@ -21,7 +21,7 @@ use text::put_bytes;
 use text::put_field;
 use text::put_number;
 
-// This word stands where another was expected.
+// This word was found where another was expected.
 fn put_wrong(out: &mut [u8], at: usize, e: Expected, word: &[u8]) -> usize
     requires { ⌜ at + 53 ≤ length (now out) ⌝ }
     ensures { λ r. ⌜ Appended (wrongText e (now (word .entry))) (now (out .entry)) at (now (out .exit)) r ⌝ }
@@ -33,14 +33,37 @@ fn put_wrong(out: &mut [u8], at: usize, e: Expected, word: &[u8]) -> usize
     put_byte(out, shown, b'\n')
 }
 
-// So many were expected, and so many found.
-fn put_count(out: &mut [u8], at: usize, n: usize, word: &[u8], k: usize) -> usize
-    requires { ⌜ at + 41 + length (now word) ≤ length (now out) ⌝ }
-    ensures { λ r. ⌜ Appended (countText n (now (word .entry)) k) (now (out .entry)) at (now (out .exit)) r ⌝ }
-    ensures { λ r. ⌜ r ≤ at + 41 + length (now (word .entry)) ⌝ }
+// `s`, unless there is one.
+fn put_plural(out: &mut [u8], at: usize, n: usize) -> usize
+    requires { ⌜ at + 1 ≤ length (now out) ⌝ }
+    ensures { λ r. ⌜ Appended (pluralOf n) (now (out .entry)) at (now (out .exit)) r ⌝ }
+    ensures { λ r. ⌜ r ≤ at + 1 ⌝ }
+{
+    if n == 1 {
+        return at;
+    }
+    put_byte(out, at, b's')
+}
+
+// A number with what it counts.
+fn put_noun(out: &mut [u8], at: usize, n: usize, word: &[u8]) -> usize
+    requires { ⌜ at + 21 + length (now word) ≤ length (now out) ⌝ }
+    ensures { λ r. ⌜ Appended (nounText n (now (word .entry))) (now (out .entry)) at (now (out .exit)) r ⌝ }
+    ensures { λ r. ⌜ r ≤ at + 21 + length (now (word .entry)) ⌝ }
 {
     let number = put_number(out, at, n as u64);
-    let found = put_bytes(out, number, word);
+    let noun = put_bytes(out, number, word);
+    put_plural(out, noun, n)
+}
+
+// One number was expected and another found.
+fn put_count(out: &mut [u8], at: usize, n: usize, word: &[u8], k: usize) -> usize
+    requires { ⌜ at + 50 + length (now word) ≤ length (now out) ⌝ }
+    ensures { λ r. ⌜ Appended (countText n (now (word .entry)) k) (now (out .entry)) at (now (out .exit)) r ⌝ }
+    ensures { λ r. ⌜ r ≤ at + 50 + length (now (word .entry)) ⌝ }
+{
+    let noun = put_noun(out, at, n, word);
+    let found = put_bytes(out, noun, b", found ");
     put_field(out, found, k as u64, b'\n')
 }
 
@@ -53,7 +76,7 @@ fn put_line_end(out: &mut [u8], at: usize, e: Expected) -> usize
     put_bytes(out, name, b", found the end of the line\n")
 }
 
-// The line ends, behind so many words that were as expected.
+// The line ended after a number of words that were as expected.
 fn put_end(out: &mut [u8], at: usize, kind: Kind, n: usize, e: Expected, k: usize) -> usize
     requires { ⌜ at + 65 ≤ length (now out) ⌝ }
     ensures { λ r. ⌜ Appended (endText kind n e k) (now (out .entry)) at (now (out .exit)) r ⌝ }
@@ -61,13 +84,13 @@ fn put_end(out: &mut [u8], at: usize, kind: Kind, n: usize, e: Expected, k: usiz
 {
     match kind {
         Kind::Sizes => put_line_end(out, at, e),
-        Kind::Owners => put_count(out, at, n, b" owners, found ", k),
-        Kind::Starts => put_count(out, at, n, b" starting values, found ", k),
+        Kind::Owners => put_count(out, at, n, b" owner", k),
+        Kind::Starts => put_count(out, at, n, b" starting value", k),
         Kind::Access => put_line_end(out, at, e),
     }
 }
 
-// What is wrong with a line, where N is the number of objects.
+// What is wrong with a line; N is the number of objects.
 fn put_line(out: &mut [u8], at: usize, kind: Kind, n: usize, line: &[u8]) -> usize
     requires { ⌜ (at + 65 ≤ length (now out)) × (length (now line) ≤ 1048576) ⌝ }
     ensures { λ r. ⌜ Appended (lineText kind n (now (line .entry))) (now (out .entry)) at (now (out .exit)) r ⌝ }
@@ -85,7 +108,7 @@ fn put_line(out: &mut [u8], at: usize, kind: Kind, n: usize, line: &[u8]) -> usi
     put_wrong(out, at, e, &bare[from..to])
 }
 
-// The text ends where such a line was expected.
+// The text ended where such a line was expected.
 fn put_missing(out: &mut [u8], at: usize, kind: Kind) -> usize
     requires { ⌜ at + 49 ≤ length (now out) ⌝ }
     ensures { λ r. ⌜ Appended (missingText kind) (now (out .entry)) at (now (out .exit)) r ⌝ }
@@ -95,7 +118,7 @@ fn put_missing(out: &mut [u8], at: usize, kind: Kind) -> usize
     put_bytes(out, name, b", found the end of the text\n")
 }
 
-// What is wrong with the line of a number.
+// What is wrong with the line that has this number.
 pub fn put_fault(out: &mut [u8], at: usize, text: &[u8], line: usize) -> usize
     requires { ⌜ (at + 65 ≤ length (now out)) × (length (now text) ≤ 1048576) ⌝ }
     ensures { λ r. ⌜ Appended (faultText (now (text .entry)) line) (now (out .entry)) at (now (out .exit)) r ⌝ }

@@ -3,7 +3,7 @@ ghost use mathlib.Core.Path.{_≡_};
 ghost use Rattle.faults.specs.Kind.{firstOf, kindAfter};
 use crate::expected::Expected;
 
-// T and N, the owners, the starting values, an access.
+// T and N, the owners, the starting values, or an access.
 pub enum Kind {
     Sizes,
     Owners,
@@ -11,7 +11,7 @@ pub enum Kind {
     Access,
 }
 
-// What its first word is to be.
+// What its first word has to be.
 pub(crate) fn first(kind: Kind) -> Expected
     ensures { λ r. ⌜ r ≡ firstOf kind ⌝ }
 {
@@ -23,7 +23,7 @@ pub(crate) fn first(kind: Kind) -> Expected
     }
 }
 
-// What the line behind it is.
+// What the next line is.
 pub(crate) fn kind_after(kind: Kind) -> Kind
     ensures { λ r. ⌜ r ≡ kindAfter kind ⌝ }
 {

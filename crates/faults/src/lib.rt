@@ -1,4 +1,4 @@
-// What is wrong with a text: which word of which line, and what was expected in its place.
+// What is wrong with a text: which word of which line, and what was expected instead.
 mod expected;
 pub mod fault;
 pub mod kind;

@@ -9,10 +9,10 @@ use crate::expected::Expected;
 use crate::kind::Kind;
 use text::put_bytes;
 
-// How many bytes a name has, and the name with blanks behind it.
+// The length of a name, and the name padded with blanks.
 pub(crate) struct Name(pub(crate) usize, pub(crate) [u8; 21]);
 
-// Of a word.
+// The name of a word.
 pub(crate) fn name_of(e: Expected) -> Name
     ensures { λ r. ⌜ Named (nameOf e) (r .0) (r .1) ⌝ }
 {
@@ -30,7 +30,7 @@ pub(crate) fn name_of(e: Expected) -> Name
     }
 }
 
-// Of a line that is missing.
+// The name of a missing line.
 pub(crate) fn missing_name(kind: Kind) -> Name
     ensures { λ r. ⌜ Named (missingName kind) (r .0) (r .1) ⌝ }
 {

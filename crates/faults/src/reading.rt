@@ -1,4 +1,4 @@
-// As what a line of the text is read.
+// What a line of the text is read as.
 ghost use mathlib.Core.Path.{_≡_};
 ghost use Prim.Native.Nat.{_≤_};
 ghost use lib.ListN.{length};
@@ -8,7 +8,7 @@ use crate::kind::kind_after;
 use lines::next_line;
 use lines::rows::sizes_of;
 
-// What the line is, whether it is there, and where it stands.
+// What the line is, whether the text has it, and where it is.
 pub(crate) struct Place {
     pub(crate) kind: Kind,
     pub(crate) there: bool,
@@ -16,7 +16,7 @@ pub(crate) struct Place {
     pub(crate) to: usize,
 }
 
-// The line of a number.
+// The line with a given number.
 pub(crate) fn place_of(text: &[u8], line: usize) -> Place
     requires { ⌜ length (now text) ≤ 1048576 ⌝ }
     ensures { λ r. ⌜ Stands (readingOf (now (text .entry)) line) (now (text .entry)) r ⌝ }
@@ -56,7 +56,7 @@ pub(crate) fn place_of(text: &[u8], line: usize) -> Place
     }
 }
 
-// N, as the first line gives it.
+// N as the first line gives it.
 pub(crate) fn objects_of(text: &[u8]) -> usize
     requires { ⌜ length (now text) ≤ 1048576 ⌝ }
     ensures { λ r. ⌜ r ≡ objectsOf (now (text .entry)) ⌝ }

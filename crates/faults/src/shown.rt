@@ -7,7 +7,7 @@ ghost use Rattle.text.specs.Appended.{Appended};
 ghost use Rattle.faults.specs.Shown.{shownByte, shownOf};
 use text::put_bytes;
 
-// A byte that is no visible character is shown as ?.
+// A byte that is not a visible character is shown as ?.
 fn shown_byte(byte: u8) -> u8
     ensures { λ r. ⌜ r ≡ shownByte byte ⌝ }
 {
@@ -30,7 +30,7 @@ fn put_shown_bytes(out: &mut [u8], at: usize, word: &[u8]) -> usize
     at + word.len()
 }
 
-// At most 20 bytes of a word, and ... where it has more.
+// At most 20 bytes of a word, then ... if it is longer.
 pub(crate) fn put_shown(out: &mut [u8], at: usize, word: &[u8]) -> usize
     requires { ⌜ at + 23 ≤ length (now out) ⌝ }
     ensures { λ r. ⌜ Appended (shownOf (now (word .entry))) (now (out .entry)) at (now (out .exit)) r ⌝ }

@@ -9,7 +9,7 @@ use crate::expected::next;
 use lines::fields::field;
 use lines::words::next_word;
 
-// What was expected there, how many words were as expected, and where the word stands; it has no bytes at the line's end.
+// What was expected there, how many words were as expected before it, and where the word found is; at the line's end it is empty.
 pub(crate) struct Stopped {
     pub(crate) expected: Expected,
     pub(crate) words: usize,
@@ -17,7 +17,7 @@ pub(crate) struct Stopped {
     pub(crate) to: usize,
 }
 
-// The first word that is not as expected, of a line without its comment.
+// The first word that is not as expected, in a line without its comment.
 pub(crate) fn stop_in(line: &[u8], first: Expected) -> Stopped
     requires { ⌜ length (now line) ≤ 1048576 ⌝ }
     ensures { λ r. ⌜ Stops (stopOf first 0 (wordsIn (now (line .entry)))) (now (line .entry)) r ⌝ }

@@ -1,4 +1,4 @@
--- The second list of a whole run (document 01, "Whole runs"): steps by value from an accepted replay opening, any task numbers.
+-- The second list of a whole run (document 01, "Whole runs"): steps from an accepted replay opening, with any task numbers.
 use mathlib.Core.Bool.{Bool, true, _&&_}
 use mathlib.Core.List.{List, [], _∷_}
 use mathlib.Core.Path.{_≡_}
@@ -10,7 +10,7 @@ use Rattle.replayer.specs.declared.Stepped.{Stepped}
 use Rattle.replayer.specs.OpenOf.{openOf}
 use Rattle.replayer.specs.StepOf.{stepOf}
 
--- what the steps leave
+-- the run and the memory after some steps
 pub record Bench : Type 0 where
   pub run : Run
   pub memory : List ℕ
@@ -28,11 +28,11 @@ unfoldable pub steppedAll : List ℕ → Bench → List ℕ → Bench
 steppedAll bytes b [] = b
 steppedAll bytes b (t ∷ steps) = steppedAll bytes (stepped bytes b t) steps
 
--- a step is taken if its number is 0
+-- a step is taken if its answer is 0
 abbrev pub takes : List ℕ → Bench → ℕ → Bool
 takes bytes b t = eqb (answerOf bytes b t .number) 0
 
--- how many steps are taken, and how many of those name a task
+-- the number of steps taken, and the number taken by one task
 unfoldable pub tally : List ℕ → Bench → List ℕ → ℕ
 tally bytes b [] = 0
 tally bytes b (t ∷ steps) = bit (takes bytes b t) + tally bytes (stepped bytes b t) steps

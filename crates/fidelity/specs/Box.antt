@@ -1,5 +1,5 @@
 -- The first list of a whole run (document 01, "Whole runs"): calls of `access` from an accepted opening. Which accesses are recorded,
--- what the reference memory (document 01: the paper box) says of them, and the recording that they end in.
+-- what the reference memory (document 01: the paper box) says about them, and the recording that results.
 use mathlib.Core.Bool.{Bool, true, false, cond}
 use mathlib.Core.List.{List, [], _∷_, _++_, map}
 use Prim.Native.Nat.{ℕ, _<_}
@@ -28,7 +28,7 @@ pub record Opening : Type 0 where
 abbrev pub openedBy : Opening → OpenOutcome
 openedBy o = openOf (o .tasks) (o .objects) (o .owners) (o .starts) (o .memory) (o .out)
 
--- a call, any numbers; its value fits its type
+-- a call with any numbers; its value fits its type
 abbrev pub Fits : Call → Type 0
 Fits (Call.access c) = c .value < 4294967296
 
@@ -39,18 +39,18 @@ pub record Asked : Type 0 where
 abbrev pub callsOf : List Asked → List Call
 callsOf asked = map (λ a. a .call) asked
 
--- the box that an opening leaves, and the box after the calls
+-- the box after opening, and after the calls
 abbrev pub firstBox : Opening → Box
 firstBox o = record { state = openedBy o .answer .state; memory = openedBy o .memory; logs = λ t. [] }
 
 abbrev pub lastBox : Opening → List Asked → Box
 lastBox o asked = calledAll (firstBox o) (callsOf asked)
 
--- the number table accepts the access
+-- the call passes every check of the number table
 abbrev pub accepts : Box → AccessCall → Bool
 accepts b c = eqb (outcome b c .answer .number) 0
 
--- the entry of an accepted access: its sort, object and the value that it answered, with the orderings of its row
+-- the entry of an accepted access: its sort, its object and the value it answered, with the orderings of its row
 abbrev pub actOf : Bool → ℕ → ℕ → Act
 actOf true object value = Act.write object value
 actOf false object value = Act.read object value
@@ -62,7 +62,7 @@ recordedEntry b c = record {
   orderings = writtenOf (b .state) (c .task) (c .object) (isWrite (c .sort));
 }
 
--- what the reference memory is fed of an access: its arguments, and whether it is accepted
+-- what the reference memory is given for an access: its arguments and whether it was accepted
 pub record Fed : Type 0 where
   pub object : ℕ
   pub write : Bool
@@ -72,8 +72,8 @@ pub record Fed : Type 0 where
 abbrev pub fedBy : Box → AccessCall → Fed
 fedBy b c = record { object = c .object; write = isWrite (c .sort); value = c .value; accepted = accepts b c }
 
--- what a call adds, by its sort: the value that it answers, the entry of the access that it makes, and what the reference memory is
--- fed. A call that makes no access adds nothing to the last two.
+-- what a call adds, by its sort: the value it answers, the entry of the access it makes, and what the reference memory is given. A call
+-- that makes no access adds no entry and gives nothing to the reference memory.
 pub record Adds : Type 0 where
   pub answers : List ℕ
   pub entries : List Entry
@@ -86,7 +86,7 @@ addedBy b (Call.access c) = record {
   feeds = fedBy b c ∷ [];
 }
 
--- the accesses recorded are those accepted; newest first
+-- the accepted accesses, newest first
 unfoldable pub recordedFrom : History → Box → List Call → History
 recordedFrom h b [] = h
 recordedFrom h b (c ∷ calls) = recordedFrom (addedBy b c .entries ++ h) (leftBy b c) calls
@@ -101,7 +101,7 @@ fedFrom b (c ∷ calls) = addedBy b c .feeds ++ fedFrom (leftBy b c) calls
 abbrev pub fed : Opening → List Asked → List Fed
 fed o asked = fedFrom (firstBox o) (callsOf asked)
 
--- an accepted write sets its object's value and gives it, an accepted read gives its object's value; any other call gives 0 and
+-- an accepted write sets its object's value and answers it, an accepted read answers its object's value; any other call answers 0 and
 -- changes nothing
 abbrev pub given : List ℕ → Fed → ℕ
 given memory f = cond (f .accepted) (cond (f .write) (f .value) (getD memory (f .object) 0)) 0
@@ -122,7 +122,7 @@ unfoldable pub answersFrom : Box → List Call → List ℕ
 answersFrom b [] = []
 answersFrom b (c ∷ calls) = addedBy b c .answers ++ answersFrom (leftBy b c) calls
 
--- the recording: the head that opening wrote, then for each task what the section writer wrote from the last state and the task's log
+-- the recording: the head written by opening, then for each task what the section writer wrote from the last state and the task's log
 abbrev pub recordingOf : Opening → List Asked → (ℕ → List ℕ) → List ℕ
 recordingOf o asked outs =
     take (openedBy o .answer .written) (openedBy o .out) ++ packed (lastBox o asked .state) (lastBox o asked .logs) outs 0 (o .tasks)

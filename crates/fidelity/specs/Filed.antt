@@ -1,4 +1,4 @@
--- A history's entries as they stand in a recording (document 01, "Records"): per task its accesses with their orderings, oldest first.
+-- A history's entries in the form of a recording (document 01, "Records"): for each task its accesses with their orderings, oldest first.
 use mathlib.Core.Bool.{true, false, cond}
 use mathlib.Core.List.{List, [], _∷_, _++_}
 use Prim.Native.Nat.{ℕ, zero, suc}

@@ -24,34 +24,35 @@ use Rattle.replayer.specs.Word.{hasBit}
 use Rattle.fidelity.specs.Box.{Opening, openedBy, Asked, callsOf, firstBox, lastBox, recorded, fed, referenceMemory, referenceValues, answersFrom, recordingOf, recordingBy}
 use Rattle.fidelity.specs.Bench.{Bench, benchOf, answerOf, stepped, steppedAll, takes, tally, tallyOf, AllTaken}
 
--- what is assumed, and nothing of the calls or the steps: the opening, the sections and the replay opening answered 0
+-- what is assumed: the opening, the sections and the replay opening answered 0. Nothing is assumed about the calls or the steps
 pub record Accepted (o : Opening) (asked : List Asked) (outs : ℕ → List ℕ) (memory : List ℕ) : Type 0 where
   pub opened : openedBy o .answer .number ≡ 0
   pub packed : (t : ℕ) → t < o .tasks → sectionOf (lastBox o asked .state) t (lastBox o asked .logs t) (outs t) .answer .number ≡ 0
   pub replayed : openOf (recordingOf o asked outs) memory .answer .number ≡ 0
 
--- a step's sort, told by its kind, its object and its value are those of an act
+-- a step shows an act: the same sort (by its kind), object and value
 abbrev pub Shows : Stepped → Act → Type 0
 Shows a (read object value) = (readsKind (a .kind) ≡ true) × (a .object ≡ object) × (a .value ≡ value)
 Shows a (write object value) = (writesKind (a .kind) ≡ true) × (a .object ≡ object) × (a .value ≡ value)
 Shows a (acquire number) = ⊥
 
 module _ (o : Opening) (asked : List Asked) (outs : ℕ → List ℕ) (memory : List ℕ) where
-  -- the recorded accesses, newest first, and their recording
+  -- the recorded accesses, newest first, and the recording
   abbrev pub history : History
   history = recorded o asked
 
   abbrev pub bytes : List ℕ
   bytes = recordingOf o asked outs
 
-  -- the bench after a list of steps, and how many accesses each task has then done: as many as steps naming it were taken
+  -- the bench after a list of steps, and how many accesses each task has done by then: the number of its steps that were taken
   abbrev pub after : List ℕ → Bench
   after steps = steppedAll bytes (benchOf bytes memory) steps
 
   abbrev pub done : List ℕ → ℕ → ℕ
   done steps t = tallyOf t bytes (benchOf bytes memory) steps
 
-  -- what 3 and 6 below say of one place. By name, since `Laws/RunA` computes them on a run: what a sham would say there is false.
+  -- what 3 and 6 below say about one place. They have names because `Laws/RunA` computes them on a run and shows that a sham's values are
+  -- wrong there
   abbrev pub StaysAt : List ℕ → ℕ → Type 0
   StaysAt steps t = stepped bytes (after steps) t ≡ after steps
 
@@ -62,27 +63,28 @@ module _ (o : Opening) (asked : List Asked) (outs : ℕ → List ℕ) (memory : 
     -- 1. Each access answers the reference memory's value, and the recorder's memory ends equal to it.
     pub answers-reference : answersFrom (firstBox o) (callsOf asked) ≡ referenceValues (o .starts) (fed o asked)
     pub memory-reference : lastBox o asked .memory ≡ referenceMemory (o .starts) (fed o asked)
-    -- 2. The reader takes the recording, and reads it back as what was recorded: T, the owners, the starting values, and each task's
+    -- 2. The reader accepts the recording and reads it back as what was recorded: T, the owners, the starting values, and each task's
     -- accepted accesses with their orderings.
     pub reader-takes : checkedOf (parse bytes) ≡ stop 0 0
     pub reads-back : (p : Parsed) × (parse bytes ≡ reads p) × (p .recording ≡ recordingBy o asked)
-    -- 3. A step is taken exactly when its task is ready: it has accesses left, and every ordering before its next one is met.
-    -- A step that is not taken leaves run and memory as they were.
+    -- 3. A step is taken exactly when its task is ready: it has accesses left, and every ordering before its next one is met. A step that
+    -- is not taken leaves the run and the memory as they were.
     pub taken-when-ready : (steps : List ℕ) (t : ℕ) → (takes bytes (after steps) t ≡ true) ↔ Ready history (done steps) t
     pub refused-changes-nothing : (steps : List ℕ) (t : ℕ) → takes bytes (after steps) t ≡ false → StaysAt steps t
-    -- 4. A task's k-th taken step answers access number k and the sort, object and value of its accepted access k.
+    -- 4. A task's k-th taken step answers number k and the sort, object and value of its accepted access k.
     pub answers-recorded : (steps : List ℕ) (t : ℕ) → takes bytes (after steps) t ≡ true
         → (e : Entry) × Access history t (suc (done steps t)) e
         × (answerOf bytes (after steps) t .access ≡ suc (done steps t)) × Shows (answerOf bytes (after steps) t) (e .act)
-    -- 5. At first and after each step the ready word has exactly the ready tasks.
+    -- 5. At the start and after every step the ready word has exactly the bits of the ready tasks.
     pub word-sound : (steps : List ℕ) → readyOf (after steps .run) bytes .number ≡ 0
     pub word-ready : (steps : List ℕ) (t : ℕ) → (hasBit (readyOf (after steps .run) bytes .word) t ≡ true) ↔ Ready history (done steps) t
-    -- 6. At first and after each step memory has, cell by cell, the starting value or the latest write among the accesses done.
+    -- 6. At the start and after every step each cell of memory holds its starting value or the latest write among the accesses done.
     pub memory-entries : (steps : List ℕ) → length (after steps .memory) ≡ o .objects
     pub memory-of-writes : (steps : List ℕ) (c : ℕ) → c < o .objects → MemoryAt steps c
-    -- 7. No more steps are taken than accesses were accepted; the word is 0 exactly when as many; memory is then the box's.
+    -- 7. At most as many steps are taken as accesses were accepted; the ready word is 0 exactly when that many were taken, and memory is
+    -- then the box's.
     pub never-more : (steps : List ℕ) → tally bytes (benchOf bytes memory) steps ≤ length history
     pub stops-at-end : (steps : List ℕ) → (readyOf (after steps .run) bytes .word ≡ 0) ↔ (tally bytes (benchOf bytes memory) steps ≡ length history)
     pub end-memory : (steps : List ℕ) → tally bytes (benchOf bytes memory) steps ≡ length history → after steps .memory ≡ lastBox o asked .memory
-    -- 8. The recorded order, the accepted accesses' tasks in call order, is taken whole.
+    -- 8. The recorded order, which is the tasks of the accepted accesses in call order, is taken completely.
     pub recorded-order : AllTaken bytes (benchOf bytes memory) (recordedOrder history)

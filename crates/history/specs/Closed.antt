@@ -1,13 +1,13 @@
--- Closed counts: the places that a replay can stand at. Counts say how many accesses each task has done; an entry is in
--- if its task has done it; the counts are closed if every entry that is in has its orderings met (document 01, "Whole
--- runs": (S, s) is met once S has done s or more).
+-- Closed counts; those of a replay are always closed. Counts say how many accesses each task has done; an entry is in if its task has done
+-- it; the counts are closed if the orderings of every entry that is in are met (document 01, "Whole runs": (S, s) is met once S has done
+-- s or more).
 use mathlib.Core.List.{List, [], _∷_}
 use Prim.Native.Nat.{ℕ, _≤_, _<_}
 use Rattle.codec.specs.declared.Position.{Position}
 use Rattle.history.specs.Entry.{Entry}
 use Rattle.history.specs.History.{History, count, At}
 
--- entry e, with g before it, is in
+-- entry e is in; g is the history before it
 abbrev pub In : (ℕ → ℕ) → Entry → History → Type 0
 In done e g = count (e .task) g < done (e .task)
 

@@ -1,14 +1,14 @@
--- An entry of a history: which task did what, and the orderings that hold it back (document 01, "Transition table": an
--- ordering (S, s) before an access means that S must have done at least s accesses). Cells are plain numbers, so that a
--- cell may be an object, or a field of one.
+-- An entry of a history: which task did what, and the orderings that hold it back (document 01, "Transition table": an ordering (S, s)
+-- before an access means that S must have done at least s accesses). Cells are plain numbers, so a cell can be an object or a field of
+-- one.
 use mathlib.Core.List.{List}
 use mathlib.Core.Bool.{Bool, false}
 use Prim.Native.Nat.{ℕ}
 use lib.Dec.{eqb}
 use Rattle.codec.specs.declared.Position.{Position}
 
--- What a task did. A read is kept with the value it gave, a write with the value it stored. The third sort is a step
--- that touches no cell and carries a number, as the taking of a mutex does.
+-- What a task did. A read is kept with the value it returned, a write with the value it stored. The third sort is a step that touches no
+-- cell and carries a number, such as taking a mutex.
 pub data Act : Type 0 where
   read : (cell value : ℕ) → Act
   write : (cell value : ℕ) → Act
@@ -34,8 +34,8 @@ valueOf (read x v) = v
 valueOf (write x v) = v
 valueOf (acquire n) = 0
 
--- Two acts conflict if they touch one cell and at least one of them writes it: a read conflicts with the writes of its
--- cell, a write with everything on its cell.
+-- Two acts conflict if they touch the same cell and at least one of them writes it: a read conflicts with the writes of its cell, a write
+-- with every access to its cell.
 abbrev pub conflicts : Act → Act → Bool
 conflicts (read x v) other = writes x other
 conflicts (write x v) other = touches x other

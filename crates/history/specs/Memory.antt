@@ -1,5 +1,5 @@
--- The reference memory, that of all writes of a history (document 01: the paper box), and the memory of those writes
--- only that are in. In both the latest write of a cell gives its value.
+-- The reference memory, which takes all writes of a history (document 01: the paper box), and the memory that takes only the writes that
+-- are in. In both a cell's value is its latest write.
 use mathlib.Core.List.{[], _∷_}
 use mathlib.Core.Bool.{cond, _&&_}
 use Prim.Native.Nat.{ℕ}

@@ -1,5 +1,4 @@
--- Ready tasks (document 01, "Replay": a task is ready if it has accesses left and every ordering before its next one is
--- met), and what the replay's tests find: `next` a task's next access, `allMet` whether its orderings are met.
+-- Ready tasks (document 01, "Replay": a task is ready if it has accesses left and every ordering before its next one is met).
 use Prim.Native.Nat.{ℕ, suc, _<_}
 use Rattle.history.specs.Entry.{Entry}
 use Rattle.history.specs.History.{History, count}

@@ -1,6 +1,6 @@
--- The replay of a history, as functions on a state (document 01, "Replay" and "Whole runs"). A step names a task, any
--- number; if the task is ready its next access is done on the memory and answered, otherwise nothing happens. A read
--- answers what the MEMORY holds, never the value kept in the entry. Definitions only; how a step goes is in Step.
+-- The replay of a history, as functions on a state (document 01, "Replay" and "Whole runs"). A step names a task by any number; if the
+-- task is ready, its next access is done on the memory and answered, otherwise nothing happens. A read answers what the MEMORY holds,
+-- never the value kept in the entry. Definitions only; laws about a step are in Laws/Step.
 use mathlib.Core.Path.{_≡_}
 use mathlib.Core.List.{List, [], _∷_, _++_}
 use mathlib.Core.Option.{Option, some, none}
@@ -31,7 +31,7 @@ abbrev pub allMet : (ℕ → ℕ) → List Position → Bool
 allMet done [] = true
 allMet done (o ∷ l) = leb (o .number) (done (o .task)) && allMet done l
 
--- there is an access, and no ordering holds it back
+-- there is a next access, and no ordering holds it back
 abbrev pub unheld : (ℕ → ℕ) → Option Entry → Bool
 unheld done none = false
 unheld done (some e) = allMet done (e .orderings)
@@ -54,7 +54,7 @@ shown (read x v) memory = read x (memory x)
 shown (write x v) memory = write x v
 shown (acquire n) memory = acquire n
 
--- a step, once it is known whether its task is ready and what its next access is
+-- a step, given whether its task is ready and its next access
 abbrev pub moved : Bool → ℕ → Option Entry → State → State
 moved false t o s = s
 moved true t none s = s
@@ -84,7 +84,7 @@ unfoldable pub run : History → State → List ℕ → State
 run h s [] = s
 run h s (t ∷ steps) = run h (step h s t) steps
 
--- how many steps of a list are taken, and how many of those name task u
+-- how many steps of a list are taken, and how many of those by task u
 unfoldable pub tally : History → State → List ℕ → ℕ
 tally h s [] = 0
 tally h s (t ∷ steps) = bit (takes h s t) + tally h (step h s t) steps
@@ -101,7 +101,7 @@ AllTaken h s (t ∷ steps) = (takes h s t ≡ true) × AllTaken h (step h s t) s
 abbrev pub fresh : (ℕ → ℕ) → State
 fresh start = record { done = λ t. 0; memory = start }
 
--- the tasks of a history's entries in the order in which the box made them
+-- the tasks of a history's entries in the order in which the box made the accesses
 unfoldable pub recordedOrder : History → List ℕ
 recordedOrder [] = []
 recordedOrder (e ∷ g) = recordedOrder g ++ (e .task ∷ [])

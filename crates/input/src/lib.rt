@@ -1,5 +1,5 @@
-// What a program reads: the file that its argument names, or standard input. What cannot be read is reported on standard error
-// in the system's own words, and is never taken for an empty file.
+// A program's input: the file that its argument names, or standard input. A failure to read is reported on standard error in the system's
+// own words, and is never taken for an empty file.
 ghost use mathlib.Core.Bool.{false};
 ghost use mathlib.Core.Path.{_≡_};
 ghost use Rattle.io.specs.Counts.{Counts};
@@ -8,8 +8,8 @@ use libc::STDERR_FILENO;
 use libc::STDIN_FILENO;
 use libc::STDOUT_FILENO;
 
-// What was read stands at the front of the buffer, `count` bytes. Where `read` is false there is nothing to go on with, and what there is
-// to say has been written.
+// The input is at the front of the buffer, `count` bytes. If `read` is false there is nothing to work on, and the reason has already been
+// written.
 pub struct Input {
     pub read: bool,
     pub count: usize,
@@ -24,7 +24,7 @@ fn nothing() -> Input
     }
 }
 
-// Why a call of the system failed, behind the program's name and what it failed on.
+// Reports why a system call failed, after the program's name and what it failed on.
 fn fail(program: &[u8], what: &[u8]) {
     io::write_all(STDERR_FILENO, program);
     io::write_all(STDERR_FILENO, b": ");
@@ -55,7 +55,7 @@ fn fill(fd: i32, program: &[u8], what: &[u8], buffer: &mut [u8]) -> Input
     }
 }
 
-// The bytes of a file.
+// Reads a file.
 pub fn from_file(program: &[u8], name: &[u8], buffer: &mut [u8]) -> Input
     ensures { λ r. ⌜ Counts (r .count) (now (buffer .exit)) ⌝ }
 {
@@ -69,7 +69,7 @@ pub fn from_file(program: &[u8], name: &[u8], buffer: &mut [u8]) -> Input
     got
 }
 
-// The bytes of standard input. Whoever sits at a terminal is told what is expected.
+// Reads standard input. On a terminal it says what is expected.
 fn from_standard(program: &[u8], expected: &[u8], buffer: &mut [u8]) -> Input
     ensures { λ r. ⌜ Counts (r .count) (now (buffer .exit)) ⌝ }
 {
@@ -84,14 +84,14 @@ fn from_standard(program: &[u8], expected: &[u8], buffer: &mut [u8]) -> Input
     fill(STDIN_FILENO, program, b"standard input", buffer)
 }
 
-// How the program is called.
+// Writes how the program is called.
 fn put_usage(fd: i32, program: &[u8]) {
     io::write_all(fd, b"usage: ");
     io::write_all(fd, program);
     io::write_all(fd, b" [FILE | --help]\n");
 }
 
-// What the one argument asks for: `-` is standard input, and any other word that begins so is an option.
+// Follows the one argument: `-` is standard input, and any other word that begins with it is an option.
 fn from_argument(program: &[u8], expected: &[u8], help: &[u8], buffer: &mut [u8]) -> Input
     ensures { λ r. ⌜ Counts (r .count) (now (buffer .exit)) ⌝ }
 {
@@ -116,7 +116,7 @@ fn from_argument(program: &[u8], expected: &[u8], help: &[u8], buffer: &mut [u8]
     from_file(program, &word[..length], buffer)
 }
 
-// What a program of this name is asked to read. `expected` names that, and `help` says what the program makes of it.
+// Reads what the arguments of the program `program` name. `expected` names the input, and `help` says what the program does with it.
 pub fn from_arguments(program: &[u8], expected: &[u8], help: &[u8], buffer: &mut [u8]) -> Input
     ensures { λ r. ⌜ Counts (r .count) (now (buffer .exit)) ⌝ }
 {

@@ -1,4 +1,4 @@
--- The lines of a text that ask for accesses: those behind the first three, of the lines that are not passed over.
+-- The lines of a text that ask for accesses: all after the third, without the skipped lines.
 use mathlib.Core.List.{List}
 use Prim.Native.Nat.{ℕ}
 use lib.ListN.{drop}

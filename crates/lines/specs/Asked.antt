@@ -1,4 +1,4 @@
--- A line of an access: `task R object` or `task W object value`.
+-- The line of an access: `task R object` or `task W object value`.
 use mathlib.Core.Bool.{Bool, true, false, cond, _&&_}
 use mathlib.Core.List.{List}
 use Prim.Native.Nat.{ℕ}
@@ -14,7 +14,7 @@ isNumber f = ltb f none
 abbrev pub malformedLine : Asked
 malformedLine = record { good = false; task = 0; object = 0; sort = 0; value = 0 }
 
--- an access whose letter is right or not; the numbers must be numbers
+-- an access, given whether its letter is right; the numbers must be numbers
 unfoldable pub askedBy : Bool → ℕ → ℕ → ℕ → ℕ → Asked
 askedBy right t o v sort =
     cond (right && (isNumber t && (isNumber o && isNumber v)))

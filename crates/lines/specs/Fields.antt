@@ -6,7 +6,7 @@ use lib.Dec.{eqb}
 use Rattle.lines.specs.Number.{none, numberOf}
 use Rattle.lines.specs.Words.{wordsOf}
 
--- R and W are no numbers, and not what another word counts as
+-- R and W are not numbers, and differ from what any other word gives
 abbrev pub readField : ℕ
 readField = 4294967297
 

@@ -1,4 +1,5 @@
--- The lines of a text, each ended by a newline, which the last may lack. Lines without a word are passed over, and counted.
+-- The lines of a text, each ended by a newline, which may be missing at the end of the last. Lines without a word are skipped, but
+-- counted.
 use mathlib.Core.Path.{_≡_}
 use mathlib.Core.Bool.{Bool, true, false, cond}
 use mathlib.Core.List.{List, [], _∷_}
@@ -19,16 +20,16 @@ pub record Line : Type 0 where
   pub number : ℕ
   pub bytes : List ℕ
 
--- the lines that are not passed over, the first of all having number n
+-- the lines that are not skipped, where the first of all lines has number n
 unfoldable pub numbered : ℕ → List (List ℕ) → List Line
 numbered n [] = []
 numbered n (l ∷ ls) = cond (isPassed l) (numbered (n + 1) ls) (record { number = n; bytes = l } ∷ numbered (n + 1) ls)
 
--- the lines from a place on, which is where line n begins
+-- the lines from an offset on, at which line n begins
 abbrev pub linesFrom : ℕ → ℕ → List ℕ → List Line
 linesFrom n at text = numbered n (linesOf (drop at text))
 
--- the number of the line behind the last
+-- the number of the line after the last
 abbrev pub lineBehind : ℕ → ℕ → List ℕ → ℕ
 lineBehind n at text = n + length (linesOf (drop at text))
 

@@ -4,14 +4,14 @@ use mathlib.Core.List.{List, [], _∷_}
 use Prim.Native.Nat.{ℕ, _+_, _*_, _-_, min}
 use lib.Dec.{leb}
 
--- what a word that is no number counts as
+-- what a word that is not a number gives
 abbrev pub none : ℕ
 none = 4294967296
 
 abbrev pub isDigit : ℕ → Bool
 isDigit b = leb 48 b && leb b 57
 
--- one digit more; a value that is too large stays so
+-- one more digit; a value that is too large stays too large
 unfoldable pub digitOn : ℕ → ℕ → ℕ
 digitOn v b = cond (isDigit b) (min (10 * v + (b - 48)) none) none
 

@@ -8,7 +8,7 @@ use Rattle.reader.specs.Parse.{allBelow}
 use Rattle.lines.specs.declared.rows.Sizes.{Sizes}
 use Rattle.lines.specs.Number.{none}
 
--- so many numbers
+-- a given number of numbers
 unfoldable pub isRow : ℕ → List ℕ → Bool
 isRow n f = eqb (length f) n && allBelow none f
 
@@ -18,7 +18,7 @@ sizesOf f =
     (record { good = true; tasks = getD f 0 0; objects = getD f 1 0 })
     (record { good = false; tasks = 0; objects = 0 })
 
--- an owner fits a byte; what does not is below no T
+-- an owner fits a byte; a larger number becomes 255, which is below no T
 abbrev pub ownerOf : ℕ → ℕ
 ownerOf f = min f 255
 

@@ -1,4 +1,4 @@
-// What a line of the text asks for.
+// The access that a line of the text asks for.
 ghost use mathlib.Core.Path.{_≡_};
 ghost use Prim.Native.Nat.{_≤_};
 ghost use lib.ListN.{length};
@@ -9,7 +9,7 @@ use crate::fields::READ;
 use crate::fields::WRITE;
 use crate::fields::fields;
 
-// An access as a line asks for it; not good where the line is malformed.
+// An access as a line asks for it; `good` is false if the line is malformed.
 pub struct Asked {
     pub good: bool,
     pub task: usize,
@@ -30,7 +30,7 @@ fn malformed() -> Asked
     }
 }
 
-// An access whose letter is right or not; the numbers must be numbers.
+// An access, given whether its letter is right; the numbers must be numbers.
 fn asked_by(right: bool, task: u64, object: u64, value: u64, sort: u32) -> Asked
     ensures { λ r. ⌜ r ≡ askedBy right task object value sort ⌝ }
 {

@@ -10,14 +10,14 @@ ghost use Rattle.lines.specs.Words.{wordsIn};
 use crate::words::bare_end;
 use crate::words::next_word;
 
-// The fields that are no numbers. A number is below them.
+// The fields of words that are not numbers. Every number is smaller.
 pub const NONE: u64 = 4294967296;
 
 pub const READ: u64 = 4294967297;
 
 pub const WRITE: u64 = 4294967298;
 
-// A number with one digit more behind it.
+// A number with one more digit.
 fn digit_on(value: u64, byte: u8) -> u64
     requires { ⌜ value ≤ 4294967296 ⌝ }
     ensures { λ r. ⌜ r ≡ digitOn value byte ⌝ }
@@ -64,7 +64,7 @@ pub fn field(word: &[u8]) -> u64
     number(word)
 }
 
-// A field put at a place, where there is room.
+// Puts a field at an index, if there is room.
 fn put_field(out: &mut [u64], at: usize, value: u64)
     ensures { λ r. ⌜ now (out .exit) ≡ set (now (out .entry)) at value ⌝ }
 {
@@ -95,7 +95,7 @@ fn fields_in(line: &[u8], out: &mut [u64]) -> usize
     count
 }
 
-// The fields of a line, as far as there is room for them. Answers how many the line has.
+// The fields of a line, as far as there is room for them. Returns how many the line has.
 pub(crate) fn fields(line: &[u8], out: &mut [u64]) -> usize
     requires { ⌜ length (now line) ≤ 1048576 ⌝ }
     ensures { λ r. ⌜ r ≡ length (fieldsOf (now (line .entry))) ⌝ }

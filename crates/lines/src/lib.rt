@@ -1,4 +1,4 @@
-// The text that the program `record` reads: its lines, and what each asks for.
+// The text that the program `record` reads: its lines, and what each of them asks for.
 ghost use mathlib.Core.Path.{_≡_};
 ghost use Prim.Native.Nat.{_+_, _≤_};
 ghost use lib.ListN.{length};
@@ -12,7 +12,7 @@ pub mod fields;
 pub mod rows;
 pub mod words;
 
-// Lines without a word are passed over.
+// Lines without a word are skipped.
 fn is_passed(line: &[u8]) -> bool
     ensures { λ r. ⌜ r ≡ isPassed (now (line .entry)) ⌝ }
 {
@@ -21,8 +21,7 @@ fn is_passed(line: &[u8]) -> bool
     w.from == w.to
 }
 
-// A line that is not passed over: where it stands, and its number. Where there is none, the number is that of the line behind
-// the last.
+// A line that is not skipped: where it is, and its number. If there is none, the number is that of the line after the last.
 pub struct Found {
     pub there: bool,
     pub from: usize,
@@ -30,7 +29,7 @@ pub struct Found {
     pub number: usize,
 }
 
-// The next line from `at` on, which is where line `first` begins.
+// The next line from `at` on, at which line `first` begins.
 pub fn next_line(text: &[u8], at: usize, first: usize) -> Found
     requires { ⌜ (length (now text) ≤ 1048576) × (at ≤ length (now text) + 1) × (first ≤ at + 1) ⌝ }
     ensures { λ r. ⌜ NextLine (now (text .entry)) at first r ⌝ }

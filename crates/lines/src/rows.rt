@@ -13,14 +13,14 @@ use crate::fields::NONE;
 use crate::fields::fields;
 use codec::limit::OBJECTS;
 
-// T and N as a line gives them; not good where the line is malformed.
+// T and N as a line gives them; `good` is false if the line is malformed.
 pub struct Sizes {
     pub good: bool,
     pub tasks: usize,
     pub objects: usize,
 }
 
-// Each field is a number.
+// Whether each field is a number.
 fn numbers_in(row: &[u64]) -> bool
     ensures { λ r. ⌜ r ≡ allBelow none (now (row .entry)) ⌝ }
 {
@@ -32,7 +32,7 @@ fn numbers_in(row: &[u64]) -> bool
     true
 }
 
-// Whether a line is so many numbers. They are put into the row.
+// Whether a line consists of `count` numbers. They are put into the row.
 fn is_row(line: &[u8], count: usize, row: &mut [u64]) -> bool
     requires { ⌜ (length (now line) ≤ 1048576) × (count ≤ length (now row)) ⌝ }
     ensures { λ r. ⌜ r ≡ isRow count (fieldsOf (now (line .entry))) ⌝ }
@@ -65,14 +65,14 @@ pub fn sizes_of(line: &[u8]) -> Sizes
     }
 }
 
-// No owner above 255 is below T.
+// An owner above 255 becomes 255, which is below no T.
 fn owner(number: u64) -> u8
     ensures { λ r. ⌜ r ≡ ownerOf number ⌝ }
 {
     if 255 < number { 255 } else { number as u8 }
 }
 
-// The owners, a byte each.
+// Stores the owners, one byte each.
 fn set_owners(row: &[u64], owners: &mut [u8])
     requires { ⌜ length (now owners) ≡ length (now row) ⌝ }
     ensures { λ r. ⌜ now (owners .exit) ≡ ownersOf (now (row .entry)) ⌝ }
@@ -82,7 +82,7 @@ fn set_owners(row: &[u64], owners: &mut [u8])
     }
 }
 
-// The starting values.
+// Stores the starting values.
 fn set_starts(row: &[u64], starts: &mut [u32])
     requires { ⌜ (length (now starts) ≡ length (now row)) × (allBelow none (now row) ≡ true) ⌝ }
     ensures { λ r. ⌜ now (starts .exit) ≡ now (row .entry) ⌝ }
@@ -92,7 +92,7 @@ fn set_starts(row: &[u64], starts: &mut [u32])
     }
 }
 
-// The owners' line. Answers whether it is a number for each owner.
+// The owners' line. Returns whether it holds one number for each owner.
 pub fn read_owners(line: &[u8], owners: &mut [u8]) -> bool
     requires { ⌜ (length (now line) ≤ 1048576) × (length (now owners) ≤ maxObjects) ⌝ }
     ensures { λ r. ⌜ r ≡ isRow (length (now (owners .entry))) (fieldsOf (now (line .entry))) ⌝ }
@@ -107,7 +107,7 @@ pub fn read_owners(line: &[u8], owners: &mut [u8]) -> bool
     true
 }
 
-// The starting values' line. Answers whether it is a number for each value.
+// The starting values' line. Returns whether it holds one number for each value.
 pub fn read_starts(line: &[u8], starts: &mut [u32]) -> bool
     requires { ⌜ (length (now line) ≤ 1048576) × (length (now starts) ≤ maxObjects) ⌝ }
     ensures { λ r. ⌜ r ≡ isRow (length (now (starts .entry))) (fieldsOf (now (line .entry))) ⌝ }

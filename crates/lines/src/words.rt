@@ -28,7 +28,7 @@ fn in_run(byte: u8, blanks: bool) -> bool
     if blanks { blank } else { !blank }
 }
 
-// Where the run that begins at a place ends.
+// Where the run that begins at `at` ends.
 fn run_end(line: &[u8], at: usize, blanks: bool) -> usize
     requires { ⌜ at ≤ length (now line) ⌝ }
     ensures { λ r. ⌜ r ≡ at + runOf blanks (drop at (now (line .entry))) ⌝ }
@@ -43,13 +43,13 @@ fn run_end(line: &[u8], at: usize, blanks: bool) -> usize
     i
 }
 
-// Where a word stands; nowhere, at the line's end, where it has no bytes.
+// Where a word begins and ends; both are the line's end if there is none.
 pub struct Word {
     pub from: usize,
     pub to: usize,
 }
 
-// The next word from a place on, of a line without its comment.
+// The next word from `at` on, in a line without its comment.
 pub fn next_word(line: &[u8], at: usize) -> Word
     requires { ⌜ at ≤ length (now line) ⌝ }
     ensures { λ r. ⌜ NextWord (now (line .entry)) at (r .from) (r .to) ⌝ }
@@ -59,7 +59,7 @@ pub fn next_word(line: &[u8], at: usize) -> Word
     Word { from, to }
 }
 
-// Where a line's comment begins, or the line ends.
+// Where a line's comment begins, or where the line ends if it has none.
 pub fn bare_end(line: &[u8]) -> usize
     ensures { λ r. ⌜ (r ≤ length (now (line .entry))) × (take r (now (line .entry)) ≡ bareOf (now (line .entry))) ⌝ }
 {

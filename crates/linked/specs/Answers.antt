@@ -1,5 +1,5 @@
--- The numbers of an answer, in the order of its struct's fields, as a call stores them from the start of `answer` on. A state or a run
--- is not among them: it has arrays of its own.
+-- An answer as numbers, in the order of its struct's fields; a call stores them from the start of `answer` on. A state or a run is not
+-- among them: it has arrays of its own.
 use mathlib.Core.List.{List, [], _∷_}
 use Prim.Native.Nat.{ℕ}
 use Rattle.entries.specs.declared.Checked.{Checked}
@@ -38,7 +38,7 @@ copyNumbers a = a .number ∷ a .offset ∷ a .written ∷ []
 abbrev pub replayOpenNumbers : ReplayOpened → List ℕ
 replayOpenNumbers a = a .number ∷ a .offset ∷ []
 
--- how many tasks are ready and the lowest of them are read off the word
+-- the number of ready tasks and the lowest of them follow from the word
 abbrev pub readyNumbers : ReadyWord → List ℕ
 readyNumbers a = a .number ∷ a .word ∷ readyCount (a .word) ∷ lowestReady (a .word) ∷ []
 

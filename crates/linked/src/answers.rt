@@ -1,4 +1,4 @@
-// Numbers put into an answer from its start: a call that holds a state puts them by one of these.
+// Puts numbers into an answer from its start; the calls that hold a state use these.
 ghost use mathlib.Core.Path.{_≡_};
 ghost use mathlib.Core.List.{[], _∷_};
 ghost use Rattle.codec.specs.Store.{store};

@@ -1,4 +1,4 @@
-// A task's body copied out: an exported function cannot hand back a part of a slice.
+// Copies a task's body out: an exported function cannot return a part of a slice.
 ghost use mathlib.Core.Path.{_≡_};
 ghost use Rattle.codec.specs.Store.{store};
 ghost use Rattle.linked.specs.Answers.{copyNumbers};
@@ -9,8 +9,8 @@ use codec::write::put_bytes;
 use reader::body;
 use reader::body_check;
 
-// The answer is number, offset and bytes written. A body that has bytes was not refused, so the bytes are walked a second time only
-// for an empty one.
+// The answer is number, offset and bytes written. A body that has bytes was not refused, so the bytes are checked a second time only for
+// an empty one.
 #[no_mangle]
 pub extern "C" fn wk_body(bytes: &[u8], task: usize, out: &mut [u8], answer: &mut [usize; 6])
     ensures { λ _. ⌜ now (answer .exit) ≡ store (now (answer .entry)) 0 (copyNumbers (copyOf (now (bytes .entry)) task (now (out .entry)))) ⌝ }

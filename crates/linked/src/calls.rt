@@ -1,10 +1,10 @@
-// One call each: every field of the answer is put into `answer`, from its start, in the order in which the library's struct has them; a
-// state or a run is put where it was lent. A refused access leaves the arrays of its state: stored again, a number in them that means
-// nothing would change.
+// One function for each call: every field of the result is put into `answer`, from its start, in the order of the library's struct; a
+// state or a run is stored where it was lent. A refused access leaves the arrays of its state alone: storing the state again would change
+// a number in them that has no meaning.
 //
-// A refused `wk_open` or `wk_replay_open` leaves the blank state or run, all zero, in the arrays, since that is what document 01's number
-// table returns from a refused opening. `step_in_place` has no export of its own: a lent struct cannot be passed, and `wk_step` moves the
-// lent numbers on in place.
+// A refused `wk_open` or `wk_replay_open` stores the blank state or run, all zero, in the arrays, because document 01's number table
+// returns that from a refused opening. `step_in_place` has no export of its own: a struct cannot be lent, and `wk_step` changes the lent
+// numbers in place.
 ghost use mathlib.Core.Path.{_≡_};
 ghost use lib.ListN.{length};
 ghost use Rattle.codec.specs.Store.{store};
@@ -173,7 +173,7 @@ pub extern "C" fn wk_finished(places: &[usize; 66], bytes: &[u8], answer: &mut [
     answer[1] = r.finished as usize;
 }
 
-// The tasks in the order in which the lowest ready one is stepped first, a byte a step, and how many.
+// The tasks in the order in which always the lowest ready one is stepped, one byte for each step, and the number of steps.
 #[no_mangle]
 pub extern "C" fn wk_schedule(places: &[usize; 66], bytes: &[u8], out: &mut [u8]) -> usize
     ensures { λ r. ⌜ r ≡ length (scheduleFrom (length (now (out .entry))) (now (bytes .entry)) (runIn (now (places .entry)))) ⌝ }

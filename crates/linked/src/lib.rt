@@ -1,5 +1,5 @@
-// The library for Rust or C to link: each function has plain numbers and lent slices, any of which may hold anything.
-// The bench (`bench/`) calls it beside an implementation written from document 01 alone.
+// The library for linking from Rust or C: every function takes plain numbers and lent slices, any of which may hold anything. The
+// benchmark (`bench/`) calls it next to an implementation that was written from document 01 alone.
 
 mod answers;
 mod body;

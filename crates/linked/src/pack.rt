@@ -1,4 +1,4 @@
-// The sections of a whole recording in one call.
+// Packs the sections of a whole recording in one call.
 ghost use mathlib.Core.Path.{_≡_};
 ghost use Rattle.codec.specs.Store.{store};
 ghost use Rattle.sections.specs.PackOf.{packOf};
@@ -7,7 +7,7 @@ ghost use Rattle.arrays.specs.Halves.{stateIn};
 use arrays::state_of;
 use sections::pack::pack;
 
-// `ends` says where in `logs` each task's log ends. The answer is number, task, offset in the task's log, and bytes written.
+// `ends` gives the offset in `logs` where each task's log ends. The answer is number, task, offset in the task's log, and bytes written.
 #[no_mangle]
 pub extern "C" fn wk_pack(
     halves: &[u16; 548],

@@ -23,7 +23,7 @@ use tracker::ObjectRecord;
 use tracker::State;
 use transitions::blank;
 
-// What opening answers: the number, the bytes written and the state, blank on a refusal.
+// The result of opening: the number, the bytes written and the state, which is blank on a refusal.
 pub struct Opened {
     pub number: u32,
     pub written: usize,
@@ -84,7 +84,7 @@ fn open_number(
     0
 }
 
-// Each object write-exclusive of its owner.
+// Every object write-exclusive to its owner.
 fn owned_records(owners: &[u8]) -> [ObjectRecord; OBJECTS]
     requires { ⌜ length (now owners) ≤ maxObjects ⌝ }
     ensures { λ r. ⌜ r ≡ ownedRecords (now (owners .entry)) (length (now (owners .entry))) ⌝ }
@@ -100,7 +100,7 @@ fn owned_records(owners: &[u8]) -> [ObjectRecord; OBJECTS]
     records
 }
 
-// The lent memory set to the starting values.
+// Sets the lent memory to the starting values.
 fn set_memory(memory: &mut [u32], starts: &[u32])
     requires { ⌜ length (now memory) ≡ length (now starts) ⌝ }
     ensures { λ r. ⌜ now (memory .exit) ≡ now (starts .entry) ⌝ }

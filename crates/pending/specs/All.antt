@@ -1,8 +1,8 @@
--- A test of every number of a run of numbers, first to last.
+-- A test that holds for every number of a range.
 use mathlib.Core.Bool.{Bool, true, _&&_}
 use Prim.Native.Nat.{ℕ, zero, suc}
 
--- f of the n numbers from i on
+-- f for the n numbers from i on
 unfoldable pub allFrom : (ℕ → Bool) → ℕ → ℕ → Bool
 allFrom f i zero = true
 allFrom f i (suc n) = f i && allFrom f (suc i) n

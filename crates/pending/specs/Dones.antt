@@ -1,4 +1,4 @@
--- The counts done of a run's 16 tasks as one list of numbers, which is what the orderings are held to.
+-- The numbers of accesses done by a run's 16 tasks, as one list; orderings are compared with them.
 use mathlib.Core.List.{List}
 use Prim.Native.Nat.{ℕ}
 use Rattle.codec.specs.Limit.{maxTasks}

@@ -1,4 +1,4 @@
--- A list by what each of its entries is, and the loop that fills it from the front.
+-- A list given by a function of the index, and the loop that fills it from the front.
 use mathlib.Core.List.{List, [], _∷_, _++_}
 use Prim.Native.Nat.{ℕ, zero, suc}
 

@@ -1,4 +1,4 @@
--- What looking at a task's next group tells: what stands next, by the counts done.
+-- What looking at a task's next group finds: what is next for the task, by the accesses done.
 use mathlib.Core.Path.{_≡_}
 use mathlib.Core.List.{List}
 use Prim.Native.Nat.{ℕ}
@@ -13,10 +13,10 @@ use Rattle.pending.specs.declared.next.Next.{Next}
 use Rattle.pending.specs.Dones.{donesOf}
 use Rattle.pending.specs.Next.{judged}
 
--- the group that is read from a place up to a body's end
+-- the group that is read from an offset, up to the body's end
 abbrev pub groupAt : Limits → List ℕ → ℕ → ℕ → Reading Entry
 groupAt m b place end = entryAt m (stop inBody place) place (part place end b)
 
--- a group that starts at a place, looked at with the counts done
+-- a group that starts at an offset, compared with the accesses done
 abbrev pub Looks : List ℕ → ℕ → Reading Entry → Next → Type 0
 Looks dones from x n = (runs : List TaskRun) → donesOf runs ≡ dones → n ≡ judged runs from x

@@ -1,4 +1,4 @@
--- Orderings that are met (document 01, "Whole runs": "(S, s) is met once S has done s or more").
+-- Met orderings (document 01, "Whole runs": "(S, s) is met once S has done s or more").
 use mathlib.Core.Bool.{Bool, true, _&&_}
 use mathlib.Core.List.{List, [], _∷_}
 use lib.Dec.{leb}

@@ -1,6 +1,5 @@
--- What stands next for a task (document 01, "Replay"): the next access of its body with the orderings before it, read by the
--- reader from the task's place to its body's end, with T, N and the own task of the run. The whole group is read before an
--- ordering is judged.
+-- What is next for a task (document 01, "Replay"): the next access of its body with the orderings before it, read from the task's place
+-- up to its body's end, with the run's T and N and the task itself as limits. The whole group is read before any ordering is compared.
 use mathlib.Core.Bool.{Bool, true, false, cond}
 use mathlib.Core.List.{List}
 use Prim.Native.Nat.{ℕ, _+_}
@@ -22,7 +21,7 @@ unfoldable pub entryNext : Run → List ℕ → ℕ → Reading Entry
 entryNext r b t =
     entryAt (limitsOf r t) (stop inBody (taskAt (r .runs) t .place)) (taskAt (r .runs) t .place) (part (taskAt (r .runs) t .place) (taskAt (r .runs) t .end) b)
 
--- an entry that starts at a place, held to what is done
+-- an entry that starts at an offset, compared with the accesses done
 unfoldable pub judged : List TaskRun → ℕ → Reading Entry → Next
 judged runs at (refused c) = Refused c
 judged runs at (read e) = cond (allMet runs (e .orderings)) (Open (e .op) (at + entryLength e)) Held
@@ -30,7 +29,7 @@ judged runs at (read e) = cond (allMet runs (e .orderings)) (Open (e .op) (at + 
 unfoldable pub nextOf : Run → List ℕ → ℕ → Next
 nextOf r b t = judged (r .runs) (taskAt (r .runs) t .place) (entryNext r b t)
 
--- every ordering of an access that reads is met
+-- the access was read, and every ordering before it is met
 abbrev pub isOpen : Next → Bool
 isOpen (Open o n) = true
 isOpen Held = false

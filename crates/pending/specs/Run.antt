@@ -1,4 +1,5 @@
--- A run (document 01, "Replay"): per task the place of its next record, its body's end, the accesses done and its section's count.
+-- A run (document 01, "Replay"): for each task the place of its next record, its body's end, the number of accesses done and its
+-- section's count.
 use Prim.Native.Nat.{ℕ, _+_}
 use mathlib.Core.List.{List}
 use lib.ListN.{getD, set, replicate}
@@ -20,15 +21,15 @@ blankRun = record { tasks = 0; objects = 0; runs = blankTasks }
 abbrev pub taskAt : List TaskRun → ℕ → TaskRun
 taskAt runs t = getD runs t blankTask
 
--- how many accesses a task has done
+-- the number of accesses a task has done
 abbrev pub doneOf : List TaskRun → ℕ → ℕ
 doneOf runs t = taskAt runs t .done
 
--- T and N of (g) are the run's
+-- the limits of (g): T and N are the run's
 abbrev pub limitsOf : Run → ℕ → Limits
 limitsOf r t = record { tasks = r .tasks; objects = r .objects; own = t }
 
--- a task goes on to a place, with one more access done
+-- a task moves on to a place, with one more access done
 abbrev pub advanced : TaskRun → ℕ → TaskRun
 advanced x next = record { place = next; end = x .end; done = x .done + 1; count = x .count }
 

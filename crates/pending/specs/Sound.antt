@@ -9,7 +9,7 @@ use Rattle.pending.specs.declared.Run.{Run}
 use Rattle.pending.specs.All.{allFrom}
 use Rattle.pending.specs.Run.{taskAt}
 
--- of a task, over so many bytes
+-- for one task; the recording has `size` bytes
 unfoldable pub taskSound : ℕ → TaskRun → Bool
 taskSound size x = leb (x .done) (x .count) && (leb (x .place) (x .end) && leb (x .end) size)
 

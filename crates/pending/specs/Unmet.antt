@@ -1,5 +1,5 @@
--- What holds an access (document 01, "Whole runs": "(S, s) is met once S has done s or more"): the first of the orderings before it that is
--- not met, with the place of its record.
+-- What holds up an access (document 01, "Whole runs": "(S, s) is met once S has done s or more"): the first unmet ordering before it,
+-- with the offset of its record.
 use mathlib.Core.Bool.{cond}
 use mathlib.Core.List.{List, [], _∷_}
 use Prim.Native.Nat.{ℕ, _+_}
@@ -13,21 +13,21 @@ use Rattle.pending.specs.declared.Run.{Run}
 use Rattle.pending.specs.Next.{entryNext}
 use Rattle.pending.specs.Run.{taskAt, doneOf}
 
--- all are met; or the place of the first that is not, and the ordering
+-- all are met; or the offset of the first unmet one, and that ordering
 pub data Unmet : Type 0 where
   none : Unmet
   first : ℕ → Position → Unmet
 
--- of orderings that stand one behind another, the first of them at a place
+-- for orderings stored one after another, the first of them at an offset
 unfoldable pub unmetOf : List TaskRun → ℕ → List Position → Unmet
 unmetOf runs at [] = none
 unmetOf runs at (p ∷ ps) = cond (leb (p .number) (doneOf runs (p .task))) (unmetOf runs (at + lengthOf orderingKind) ps) (first at p)
 
--- of an entry that starts at a place
+-- for an entry that starts at an offset
 unfoldable pub unmetIn : List TaskRun → ℕ → Reading Entry → Unmet
 unmetIn runs at (refused c) = none
 unmetIn runs at (read e) = unmetOf runs at (e .orderings)
 
--- of a task's next entry
+-- for a task's next entry
 unfoldable pub unmetNext : Run → List ℕ → ℕ → Unmet
 unmetNext r b t = unmetIn (r .runs) (taskAt (r .runs) t .place) (entryNext r b t)

@@ -1,11 +1,11 @@
-// A run: where each task stands in its body, whether a run is sound, and what stands next for a task. Document 01, "Replay".
+// A run: how far each task has got in its body, whether a run is sound, and what is next for a task. Document 01, "Replay".
 use codec::limit::TASKS;
 
 pub mod next;
 pub mod sound;
 
-// Where a task stands: the place of its next record, its body's end, the accesses done and its section's count. All are as
-// wide as a place: the reader's spans are, and a count that is never narrowed needs no proof that it fits.
+// How far a task has got: the place of its next record, its body's end, the number of accesses done and its section's count. All fields
+// are `usize`, like the reader's offsets: a count that is never narrowed needs no proof that it fits.
 pub struct TaskRun {
     pub place: usize,
     pub end: usize,
@@ -13,7 +13,7 @@ pub struct TaskRun {
     pub count: usize,
 }
 
-// The state of a replay: T, N and the tasks. Entries at T and above mean nothing. The blank run is all zero.
+// The state of a replay: T, N and the tasks. Entries from T on have no meaning. The blank run is all zero.
 pub struct Run {
     pub tasks: usize,
     pub objects: usize,

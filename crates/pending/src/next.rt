@@ -1,4 +1,4 @@
-// What stands next for a task: its next access with the orderings before it, read by the reader and held to what is done.
+// What is next for a task: its next access with the orderings before it, compared with the accesses done.
 ghost use mathlib.Core.Path.{_≡_};
 ghost use Prim.Native.Nat.{_≤_, _<_};
 ghost use lib.ListN.{length};
@@ -20,22 +20,22 @@ use entries::entry::entry_at;
 use entries::entry::number_at;
 use entries::entry::source_at;
 
-// An access that may be done now and the place behind it; one that an ordering holds; or records that do not read.
+// An access that may be done now, with the place after it; one that an ordering holds up; or records that are refused.
 pub enum Next {
     Open { op: Op, next: usize },
     Held,
     Refused(Checked),
 }
 
-// What a look at a task's next group finds: what stands next, and how far it is judged. `at` is the place of the access's record, `scan`
-// that of the first ordering before it that is not met, or `at` where all are met; both are 0 where the group does not read.
+// What is found at a task's next group: what is next, and how far the scan got. `at` is the place of the access's record, `scan` the
+// place of the first unmet ordering before it, or `at` if all are met; both are 0 if the group is refused.
 pub struct Look {
     pub next: Next,
     pub scan: usize,
     pub at: usize,
 }
 
-// The reader's number and offset, 0 and 0 where an access was found.
+// The reader's number and offset; 0 and 0 if an access was found.
 pub fn refusal(f: Found) -> Checked
     ensures { λ r. ⌜ r ≡ refusalOf f ⌝ }
 {
@@ -52,8 +52,8 @@ pub fn refusal(f: Found) -> Checked
     }
 }
 
-// The place of the first ordering from a place on that is not met, or the place of the access's record. Up to that record there are
-// orderings, of which the source and the number are all that is looked at.
+// The place of the first unmet ordering from `from` on, or `at`, the place of the access's record. There are only orderings up to that
+// record, and only their sources and numbers are read.
 pub fn first_unmet(bytes: &[u8], from: usize, at: usize, dones: &[usize; TASKS]) -> usize
     requires { ⌜ InGroup (now bytes) (now dones) from at ⌝ }
     ensures { λ r. ⌜ Scanned (now (bytes .entry)) (now (dones .entry)) from at r ⌝ }
@@ -70,7 +70,7 @@ pub fn first_unmet(bytes: &[u8], from: usize, at: usize, dones: &[usize; TASKS])
     place
 }
 
-// The group from a place up to a body's end, held to the counts done. All of it is read before an ordering is judged.
+// The group between two places, compared with the accesses done. All of it is read before any ordering is compared.
 pub fn look_at(
     bytes: &[u8],
     from: usize,
@@ -105,7 +105,7 @@ pub fn look_at(
     }
 }
 
-// The counts done, one for each task.
+// The number of accesses done, for each task.
 pub fn dones_of(run: Run) -> [usize; TASKS]
     ensures { λ r. ⌜ r ≡ donesOf (run .runs) ⌝ }
 {
@@ -117,7 +117,7 @@ pub fn dones_of(run: Run) -> [usize; TASKS]
     dones
 }
 
-// The next group of a task, with T and N of the run.
+// The next group of a task, with the run's T and N.
 pub fn next_of(run: Run, bytes: &[u8], task: usize) -> Next
     requires { ⌜ (run .tasks ≤ maxTasks) × (task < maxTasks) × (taskAt (run .runs) task .end ≤ length (now bytes)) ⌝ }
     ensures { λ r. ⌜ r ≡ nextOf run (now (bytes .entry)) task ⌝ }

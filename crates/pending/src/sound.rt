@@ -7,7 +7,7 @@ use codec::limit::OBJECTS;
 use codec::limit::TASKS;
 use codec::limit::within;
 
-// Done at most the section's count, the place at most the end, the end within the bytes.
+// Done is at most the section's count, the place at most the end, the end within the bytes.
 fn task_sound(x: TaskRun, size: usize) -> bool
     ensures { λ r. ⌜ r ≡ taskSound size x ⌝ }
 {
@@ -20,7 +20,7 @@ fn task_sound(x: TaskRun, size: usize) -> bool
     x.end <= size
 }
 
-// Document 01: a sound run over so many bytes; number 17 is for any other.
+// Whether a run over `size` bytes is sound (document 01); if not, the number is 17.
 pub fn sound(run: Run, size: usize) -> bool
     ensures { λ r. ⌜ r ≡ soundOf run size ⌝ }
 {

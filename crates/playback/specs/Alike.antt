@@ -1,6 +1,6 @@
--- Two recordings that are alike (document 01, "Replay": "both finish under lowest ready task first, with equal T, N, step count and
--- final memory"). Order: the first's bytes, the second's, then 3; a refusal leaves both memories as they came. Otherwise each memory holds
--- what its run ended or stuck with.
+-- Two recordings that are alike (document 01, "Replay": "both finish under lowest ready task first, with equal T, N, step count and final
+-- memory"). Order of refusals: the first recording's bytes, the second's, then 3; a refusal leaves both memories as they were. Otherwise
+-- each memory holds what its run ended or got stuck with.
 use mathlib.Core.Bool.{Bool, false, cond, _&&_}
 use mathlib.Core.List.{List}
 use Prim.Native.Nat.{ℕ}
@@ -25,7 +25,7 @@ pub record Comparison : Type 0 where
 abbrev pub sameAt : List ℕ → List ℕ → ℕ → Bool
 sameAt a b i = eqb (getD a i 0) (getD b i 0)
 
--- equal memories, entry by entry
+-- equal memories
 abbrev pub sameEntries : List ℕ → List ℕ → Bool
 sameEntries a b = eqb (length a) (length b) && allFrom (sameAt a b) 0 (length a)
 
@@ -39,7 +39,7 @@ refusedCompared number offset = record { number = number; offset = offset; alike
 abbrev pub refusing : ℕ → ℕ → List ℕ → List ℕ → Comparison
 refusing number offset m n = record { answer = refusedCompared number offset; first = m; second = n }
 
--- what two plays came to
+-- the comparison of two plays
 abbrev pub comparing : Play → Play → Comparison
 comparing x y = record {
   answer = record { number = 0; offset = 0; alike = alikeOf (shownPlay x) (shownPlay y) (sameEntries (x .memory) (y .memory)) };

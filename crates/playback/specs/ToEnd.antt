@@ -1,5 +1,6 @@
--- A recording played to its end in one call: opened, then the lowest ready task first until none is ready (document 01, "Replay"). A
--- refused opening gives its number and offset and leaves the memory; otherwise the memory is what the run ended or stuck with.
+-- A recording played to its end in one call: opened, then the lowest ready task is stepped until none is ready (document 01, "Replay"). A
+-- refused opening gives its number and offset and leaves the memory as it was; otherwise the memory is what the run ended or got stuck
+-- with.
 use mathlib.Core.Bool.{false, cond}
 use mathlib.Core.List.{List}
 use Prim.Native.Nat.{ℕ}
@@ -8,7 +9,7 @@ use Rattle.playback.specs.declared.to_end.Replayed.{Replayed}
 use Rattle.scheduler.specs.Finish.{Play, finishOf, finishedOf}
 use Rattle.replayer.specs.OpenOf.{openOf}
 
--- a recording played from its opening
+-- a recording played from its start
 abbrev pub playOf : List ℕ → List ℕ → Play
 playOf b memory = finishOf b (record { run = openOf b memory .answer .run; memory = openOf b memory .memory; steps = 0 })
 
@@ -20,7 +21,7 @@ pub record EndOutcome : Type 0 where
 abbrev pub refusedEnd : ℕ → ℕ → Replayed
 refusedEnd number offset = record { number = number; offset = offset; steps = 0; finished = false }
 
--- what a play came to
+-- the result of a play
 abbrev pub endedOf : Play → EndOutcome
 endedOf x = record { answer = record { number = 0; offset = 0; steps = x .steps; finished = finishedOf (x .run) }; memory = x .memory }
 

@@ -1,4 +1,4 @@
-// Whether two recordings are alike: both are played to their end, the lowest ready task first, and what they came to is compared.
+// Whether two recordings are alike: both are played to their end, always the lowest ready task, and the results are compared.
 ghost use mathlib.Core.Path.{_≡_};
 ghost use lib.ListN.{length};
 ghost use Rattle.reader.specs.Layout.{layoutOf};
@@ -64,7 +64,7 @@ fn alike(x: Played, y: Played, memory: bool) -> bool
     memory
 }
 
-// Both recordings, which were checked, are played, and what they came to is compared.
+// Plays both recordings, which have been checked, and compares the results.
 fn compare(
     first: &[u8],
     second: &[u8],
@@ -85,7 +85,7 @@ fn compare(
     alike(x, y, memory)
 }
 
-// Both byte strings and both lengths are tested before either memory is set.
+// Both byte strings and both lengths are checked before either memory is changed.
 pub fn same_outcome(
     first: &[u8],
     second: &[u8],

@@ -1,4 +1,4 @@
-// A run played on, the lowest ready task first, until no task is ready; and whether a run has finished.
+// Plays a run, always the lowest ready task, until no task is ready; and whether a run has finished.
 ghost use mathlib.Core.Path.{_≡_};
 ghost use Prim.Native.Nat.{_<_};
 ghost use Rattle.scheduler.specs.Laws.Columns.{allDoneOf};
@@ -15,13 +15,13 @@ use scheduler::columns::columns_of;
 use scheduler::lowest::NextStep;
 use scheduler::lowest::lowest;
 
-// Whether a run has finished; 17 and no for one that is not sound.
+// Whether a run has finished; 17 and false if it is not sound.
 pub struct Completion {
     pub number: u32,
     pub finished: bool,
 }
 
-// What a play came to: T, N, the steps that it took, and whether it finished; one that did not is stuck.
+// The result of a play: T, N, the number of steps, and whether it finished; if not, it is stuck.
 pub struct Played {
     pub tasks: usize,
     pub objects: usize,
@@ -29,8 +29,8 @@ pub struct Played {
     pub finished: bool,
 }
 
-// While a task is ready the lowest of them is stepped, and its access is done on the memory. Each step leaves one access fewer, so the
-// loop ends and the count of steps fits.
+// As long as a task is ready, the lowest one is stepped and its access is done on the memory. Each step leaves one access fewer, so the
+// loop ends and the number of steps fits its type.
 pub(crate) fn finish(run: Run, bytes: &[u8], memory: &mut [u32]) -> Played
     requires { ⌜ Playing (now bytes) (record { run = run; memory = now memory; steps = 0 }) ⌝ }
     requires { ⌜ leftOver run < 18446744073709551616 ⌝ }

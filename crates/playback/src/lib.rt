@@ -1,5 +1,5 @@
-// A recording played to its end, the lowest ready task first, and against another recording. Document 01, "Replay". It stands above the
-// scheduler, which says who goes next, and the replayer, whose access, soundness test and opening it plays by.
+// A recording played to its end, always the lowest ready task, and compared with another recording. Document 01, "Replay". This crate is
+// above the scheduler, which finds the next task, and the replayer, whose access, soundness test and opening it uses.
 pub mod alike;
 pub mod finish;
 pub mod to_end;

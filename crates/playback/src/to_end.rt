@@ -1,4 +1,4 @@
-// A recording played to its end in one call: opened, then the lowest ready task first until none is ready.
+// A recording played to its end in one call: opened, then the lowest ready task is stepped until none is ready.
 ghost use mathlib.Core.Path.{_≡_};
 ghost use lib.ListN.{length};
 ghost use Rattle.reader.specs.Layout.{layoutOf};
@@ -31,7 +31,7 @@ fn refused(number: u32, offset: usize) -> Replayed
     }
 }
 
-// A recording that was checked, from its opening to where it ends or sticks.
+// Plays a checked recording from its opening to where it ends or gets stuck.
 pub(crate) fn play(bytes: &[u8], l: Layout, memory: &mut [u32]) -> Played
     requires { ⌜ (l ≡ layoutOf (parse (now bytes))) × (l .number ≡ 0) × (length (now memory) ≡ l .objects) ⌝ }
     ensures { λ r. ⌜ r ≡ shownPlay (playOf (now (bytes .entry)) (now (memory .entry))) ⌝ }
@@ -41,7 +41,7 @@ pub(crate) fn play(bytes: &[u8], l: Layout, memory: &mut [u32]) -> Played
     finish(run, bytes, memory)
 }
 
-// A refusal is that of opening, and leaves the memory.
+// A refusal is the one of opening, and leaves the memory as it was.
 pub fn replay_to_end(bytes: &[u8], memory: &mut [u32]) -> Replayed
     ensures { λ r. ⌜ r ≡ toEndOf (now (bytes .entry)) (now (memory .entry)) .answer ⌝ }
     ensures { λ r. ⌜ now (memory .exit) ≡ toEndOf (now (bytes .entry)) (now (memory .entry)) .memory ⌝ }

@@ -1,5 +1,5 @@
--- BOTH PROGRAMS: what `replay` writes of a recording that `record` made of a text. One line for each access of the text, then `end` with
--- their number, then the memory that the text leaves.
+-- BOTH PROGRAMS: what `replay` writes for a recording that `record` made from a text. One line for each access of the text, then `end`
+-- with their number, then the memory that the text leaves.
 use mathlib.Core.Bool.{true}
 use mathlib.Core.List.{List, [], _∷_, _++_, map}
 use mathlib.Core.Path.{_≡_}
@@ -23,13 +23,13 @@ accessLine t k (read object value) = fieldOf t 32 ++ fieldOf k 32 ++ (82 ∷ 32 
 accessLine t k (write object value) = fieldOf t 32 ++ fieldOf k 32 ++ (87 ∷ 32 ∷ []) ++ fieldOf object 32 ++ fieldOf value 10
 accessLine t k (acquire number) = []
 
--- the lines of steps of these tasks, where each task has done so many of its accesses: the next access of the task, and so on
+-- the lines for steps of these tasks, when each task has already done some accesses: each line is the task's next access
 pub data Lines (h : History) : (ℕ → ℕ) → List ℕ → List ℕ → Type 0 where
   none : {done : ℕ → ℕ} → Lines h done [] []
   more : {done : ℕ → ℕ} {t : ℕ} {steps rest : List ℕ} {e : Entry} → Access h t (suc (done t)) e → Lines h (oneMore t done) steps rest
       → Lines h done (t ∷ steps) (accessLine t (suc (done t)) (e .act) ++ rest)
 
--- the calls that were made ask for what the text's lines want, and each access that they made has its line
+-- the calls ask for what the text's lines want, and each access they made has its line
 pub record Shown (text : List ℕ) : Type 0 where
   pub opening : Opening
   pub asked : List Asked

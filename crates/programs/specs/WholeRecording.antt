@@ -1,4 +1,5 @@
--- The recording of a whole run (document 01, "Whole runs"), with everything accepted: demand 3 holds of it by `fidelity`'s theorem.
+-- The recording of a whole run (document 01, "Whole runs") in which everything was accepted: demand 3 holds for it by `fidelity`'s
+-- theorem.
 use mathlib.Core.Path.{_≡_}
 use mathlib.Core.List.{List, map}
 use Prim.Native.Nat.{ℕ, _+_, _≤_}
@@ -10,12 +11,12 @@ use Rattle.lines.specs.Lines.{Line}
 use Rattle.logs.specs.Session.{most}
 use Rattle.programs.specs.Wanted.{wantedIn, wantedBy}
 
--- an output for each section that just holds it
+-- an output for each section, exactly as long as needed
 abbrev pub outsOf : Box → ℕ → List ℕ
 outsOf b t = replicate (12 + length (b .logs t)) 0
 
--- the bytes are a whole run's recording, with everything accepted: its calls ask for what these lines want, one access is recorded for
--- each, and they leave such a memory
+-- the bytes are the recording of a whole run with everything accepted: its calls ask for what these lines want, one access is recorded
+-- for each, and they leave this memory
 pub record WholeRecording (bytes memory : List ℕ) (lines : List Line) : Type 0 where
   pub opening : Opening
   pub asked : List Asked

@@ -1,4 +1,4 @@
--- Something is wrong with a line as it is read: where it is there, its reading stops before it is whole.
+-- A line is missing or wrong: if the text has it, its reading stops before the line is complete.
 use mathlib.Core.Bool.{true, false}
 use mathlib.Core.Path.{_≡_}
 use Prim.Native.Nat.{ℕ}

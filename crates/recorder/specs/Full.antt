@@ -1,5 +1,5 @@
--- The run on the bench with 65,535 accesses (document 01, marked P): that one is taken, the next gives 8. From a state reached by a
--- list of calls, by a law and not by computing them.
+-- The run on the bench with 65,535 accesses (document 01, marked P): access 65,535 is accepted, the next gives 8. Both follow from a law
+-- about lists of calls, since computing that many would take too long.
 use mathlib.Core.Path.{_≡_}
 use mathlib.Core.List.{[], _∷_}
 use lib.ListN.{replicate}
@@ -10,7 +10,7 @@ use Rattle.recorder.specs.WholeRun.{AccessCall, Call, Box, outcome, call
 abbrev pub again : AccessCall
 again = record { task = 0; object = 0; sort = 0; value = 0; out = replicate 138 0 }
 
--- an opening with one task and one object, and the box that it leaves
+-- an opening with one task and one object, and the box after it
 abbrev pub opening : OpenOutcome
 opening = openOf 1 1 (0 ∷ []) (0 ∷ []) (0 ∷ []) (replicate 13 0)
 

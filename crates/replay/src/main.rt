@@ -1,9 +1,10 @@
-// The replay program (document 01): a recording from a file or standard input, stepped lowest ready task first, a line a step.
+// The replay program (document 01): plays a recording from a file or standard input, always the lowest ready task, one line for each
+// step.
 use transcript::MOST_REASONS;
 use transcript::space;
 use transcript::tell;
 
-// One byte more than a recording may have, to notice a longer one.
+// Reads one byte more than a recording may have, to notice a longer one.
 fn main() {
     let mut bytes = [0u8; 65537];
     let asked = input::from_arguments(

@@ -26,7 +26,7 @@ lineOf task s = fieldOf task 32 ++ fieldOf (s .access) 32 ++ (letterOf (s .kind)
 unfoldable pub endLine : Bool → ℕ → List ℕ
 endLine finished steps = cond finished (101 ∷ 110 ∷ 100 ∷ 32 ∷ []) (115 ∷ 116 ∷ 117 ∷ 99 ∷ 107 ∷ 32 ∷ []) ++ fieldOf steps 10
 
--- each value behind a space
+-- each value after a space
 unfoldable pub spaced : List ℕ → List ℕ
 spaced [] = []
 spaced (v ∷ vs) = (32 ∷ decimalOf v) ++ spaced vs

@@ -1,4 +1,4 @@
-// The lines that the program writes, each put into the output at a place; answered is the place behind it.
+// The lines that the program writes, each put into the output at an offset; the offset after it is returned.
 ghost use mathlib.Core.Path.{_≡_};
 ghost use Prim.Native.Nat.{_+_, _≤_};
 ghost use lib.ListN.{length};

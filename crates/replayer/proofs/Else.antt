@@ -1,4 +1,4 @@
--- What a `let .. else` leaves in its else branch, by the tags that are left.
+-- What the else branch of a `let .. else` knows, by the remaining tags.
 use mathlib.Core.Path.{_≡_, refl}
 use mathlib.Core.List.{List, [], _∷_}
 use Prim.Native.Nat.{ℕ}

@@ -1,4 +1,4 @@
-// The step that moves a lent run on in place: the step by value, and its run stored.
+// The step that changes a lent run in place: the step by value, then its run is stored.
 ghost use mathlib.Core.Path.{_≡_};
 ghost use Rattle.replayer.specs.StepOf.{stepOf};
 ghost use Rattle.replayer.specs.InPlace.{shownOf};
@@ -6,7 +6,7 @@ use crate::Stepped;
 use crate::step;
 use pending::Run;
 
-// The access that was done, as `Stepped` answers it; the run is where it was lent.
+// The access that was done, as in `Stepped`; the run is where it was lent.
 pub struct Step {
     pub number: u32,
     pub offset: usize,
@@ -30,7 +30,7 @@ fn shown(s: Stepped) -> Step
     }
 }
 
-// Does a task's next access on the memory and moves the run on; a refused step leaves both.
+// Does a task's next access on the memory and moves the run on; a refused step changes neither.
 pub fn step_in_place(run: &mut Run, bytes: &[u8], memory: &mut [u32], task: usize) -> Step
     ensures { λ r. ⌜
         (r ≡ shownOf (stepOf (now (run .entry)) (now (bytes .entry)) (now (memory .entry)) task .answer))

@@ -43,8 +43,7 @@ fn starts(spans: [Span; TASKS], tasks: usize) -> [TaskRun; TASKS]
     runs
 }
 
-// The run at the start of a layout, and the memory set. For a layout that `locate` finds, and a memory of N entries, this
-// is the opening.
+// The run at the start of a layout, with the memory set. For a layout that `locate` found and a memory of N entries, this is the opening.
 pub fn begin(bytes: &[u8], l: Layout, memory: &mut [u32]) -> Run
     ensures { λ r. ⌜ r ≡ begunOf l ⌝ }
     ensures { λ r. ⌜ now (memory .exit) ≡ startingIn (now (bytes .entry)) (now (memory .entry)) ⌝ }

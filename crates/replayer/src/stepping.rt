@@ -1,4 +1,4 @@
-// What a step does: the tests before the bytes, the access on the memory, the run's move, and the answers.
+// What a step does: the checks before the bytes, the access on the memory, the run's change, and the answers.
 ghost use mathlib.Core.Path.{_≡_};
 ghost use Prim.Native.Nat.{_+_, _<_};
 ghost use Rattle.codec.specs.Limit.{maxTasks};
@@ -20,7 +20,7 @@ use pending::TaskRun;
 use pending::next::Next;
 use pending::sound::sound;
 
-// 17, 3, 5, 15, or 0 where none of them applies.
+// 17, 3, 5, 15, or 0 if none of them applies.
 pub(crate) fn early_number(run: Run, size: usize, entries: usize, task: usize) -> u32
     ensures { λ r. ⌜ r ≡ earlyNumber run size entries task ⌝ }
 {
@@ -54,7 +54,7 @@ pub(crate) fn refused(run: Run, number: u32, offset: usize) -> Stepped
     }
 }
 
-// Why an access is not done: the reader's number and offset, 16, or 0 where nothing holds it.
+// Why an access is not done: the reader's number and offset, 16, or 0 if nothing holds it up.
 pub(crate) fn late_refusal(n: Next) -> Checked
     ensures { λ r. ⌜ r ≡ lateRefusal n ⌝ }
 {
@@ -71,7 +71,7 @@ pub(crate) fn late_refusal(n: Next) -> Checked
     }
 }
 
-// A read gives the memory's value, a write stores and gives its own. Past the memory's end nothing is stored, and 0 stands there.
+// A read returns the memory's value, a write stores and returns its own. Past the memory's end nothing is stored, and 0 is returned.
 pub fn perform(op: Op, memory: &mut [u32]) -> u32
     ensures { λ r. ⌜ r ≡ valueOf op (now (memory .entry)) ⌝ }
     ensures { λ r. ⌜ now (memory .exit) ≡ performed op (now (memory .entry)) ⌝ }
@@ -90,7 +90,7 @@ pub fn perform(op: Op, memory: &mut [u32]) -> u32
     0
 }
 
-// The task goes on to a place, with one more access done, `access` in all; no other task moves.
+// The task moves on to the place `next`, with one more access done, `access` in all; no other task changes.
 pub(crate) fn moved(run: Run, task: usize, next: usize, access: usize) -> Run
     requires { ⌜ (task < maxTasks) × (access ≡ doneOf (run .runs) task + 1) ⌝ }
     ensures { λ r. ⌜ r ≡ movedOf run task next ⌝ }

@@ -10,7 +10,7 @@ use Rattle.entries.specs.Reading.{stop}
 use Rattle.opening.specs.OpenOf.{OpenOutcome, openOf}
 use Rattle.recorder.specs.WholeRun.{Call, Box, outcome, calledAll, packed}
 
--- an opening of two objects owned by task 0, with starting values 0 and output enough
+-- an opening of two objects owned by task 0, with starting values 0 and enough output
 abbrev opening : ℕ → OpenOutcome
 opening tasks = openOf tasks 2 (0 ∷ 0 ∷ []) (0 ∷ 0 ∷ []) (1 ∷ 1 ∷ []) (replicate 18 0)
 
@@ -38,17 +38,17 @@ abbrev row-one : ℕ → Box → ℕ
 row-one n b = outcome b (record { task = 0; object = 0; sort = 1; value = 7; out = replicate n 0 }) .answer .number
 
 pub record Calls : Type 0 where
-  -- run A: bodies 24 and 32 bytes, recording 98, which the reader takes; memory 9 and 0
+  -- run A: bodies of 24 and 32 bytes, a recording of 98 bytes, which the reader accepts; memory 9 and 0
   pub a-body-0 : length (box-a .logs 0) ≡ 24
   pub a-body-1 : length (box-a .logs 1) ≡ 32
   pub a-recording : length recording-a ≡ 98
   pub a-taken : checkedOf (parse recording-a) ≡ stop 0 0
   pub a-memory : box-a .memory ≡ 9 ∷ 0 ∷ []
-  -- T = 0 and 17 give 1; 16 is taken; N = 257 gives 2
+  -- T = 0 and 17 give 1; 16 is accepted; N = 257 gives 2
   pub no-tasks : opening 0 .answer .number ≡ 1
   pub many-tasks : opening 17 .answer .number ≡ 1
   pub sixteen : opening 16 .answer .number ≡ 0
   pub many-objects : openOf 1 257 [] [] [] [] .answer .number ≡ 2
-  -- a write by row 1 with 9 bytes of output gives 9; with 10 it is taken
+  -- a write by row 1 with 9 bytes of output gives 9; with 10 it is accepted
   pub nine-bytes : row-one 9 (opened-box 2) ≡ 9
   pub ten-bytes : row-one 10 (opened-box 2) ≡ 0

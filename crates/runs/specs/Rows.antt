@@ -11,7 +11,7 @@ use Rattle.tracker.specs.Next.{stateAfter}
 use Rattle.tracker.specs.Opened.{openedState}
 use Rattle.tracker.specs.declared.State.{State}
 
--- an access that is accepted; the value of a read is not looked at
+-- an access that is accepted; the value of a read makes no difference
 pub record Access : Type 0 where
   pub task : ℕ
   pub object : ℕ
@@ -24,7 +24,7 @@ reads task object = record { task = task; object = object; write = false; value 
 abbrev pub writes : ℕ → ℕ → ℕ → Access
 writes task object value = record { task = task; object = object; write = true; value = value }
 
--- an access's row, and the orderings that it writes
+-- an access's row and the orderings it writes
 pub record Tracked : Type 0 where
   pub row : ℕ
   pub orderings : List Position
@@ -32,7 +32,7 @@ pub record Tracked : Type 0 where
 abbrev pub tracked : ℕ → List Position → Tracked
 tracked row orderings = record { row = row; orderings = orderings }
 
--- the accesses in turn, each from the state that the one before it left
+-- the accesses one after another, each from the state left by the one before
 unfoldable pub trackedAll : State → List Access → List Tracked
 trackedAll s [] = []
 trackedAll s (a ∷ rest) =
@@ -50,8 +50,8 @@ pub record Rows : Type 0 where
   -- A's first three with T = 3, then task 2 reads object 0 twice
   pub fence : trackedAll (opened 3) (writes 0 0 7 ∷ reads 1 0 ∷ reads 0 0 ∷ reads 2 0 ∷ reads 2 0 ∷ [])
       ≡ tracked 1 [] ∷ tracked 8 (position 0 1 ∷ []) ∷ tracked 5 (position 1 1 ∷ []) ∷ tracked 6 (position 0 2 ∷ []) ∷ tracked 3 [] ∷ []
-  -- T = 4: task 3 comes to the second share by way of Last, and so to the first
+  -- T = 4: task 3 is ordered after the second share through Last, and so after the first
   pub four : trackedAll (opened 4) (reads 1 0 ∷ reads 2 0 ∷ reads 1 1 ∷ reads 3 1 ∷ reads 3 0 ∷ [])
       ≡ tracked 8 [] ∷ tracked 5 (position 1 1 ∷ []) ∷ tracked 8 [] ∷ tracked 5 (position 1 2 ∷ position 2 1 ∷ []) ∷ tracked 3 [] ∷ []
-  -- Took and Done differ at row 5: task 1 has made two accesses, and only the first took the object
+  -- Took and Done differ at row 5: task 1 has made two accesses, and only the first one took the object
   pub took : trackedAll (opened 3) (reads 1 0 ∷ reads 1 0 ∷ reads 2 0 ∷ []) ≡ tracked 8 [] ∷ tracked 2 [] ∷ tracked 5 (position 1 1 ∷ []) ∷ []

@@ -17,7 +17,7 @@ pub record Whole : Type 0 where
   pub size : lib.ListN.length bytes ≡ 98
   pub first-word : readyOf (bench [] .run) bytes .word ≡ 1
   pub second-word : readyOf (bench (0 ∷ []) .run) bytes .word ≡ 2
-  -- task 1 is held at first, so its step changes nothing
+  -- task 1 is held up at the start, so its step changes nothing
   pub held : bench (1 ∷ []) .memory ≡ 0 ∷ 0 ∷ []
   pub end-word : readyOf (bench (0 ∷ 1 ∷ 0 ∷ 1 ∷ []) .run) bytes .word ≡ 0
   pub end-memory : bench (0 ∷ 1 ∷ 0 ∷ 1 ∷ []) .memory ≡ 9 ∷ 0 ∷ []

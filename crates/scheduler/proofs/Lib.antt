@@ -1,2 +1,2 @@
--- What a `let .. else` leaves in its else branch: the value is none of the kind that was asked for.
+-- What the else branch of a `let .. else` knows: the value is not of the kind that was asked for.
 pub mod Else

@@ -1,5 +1,5 @@
--- Lowest ready task first, played to its end (document 01, "Replay"): while a task is ready the lowest of them is stepped. A run has
--- finished if no task has accesses left; one that ends otherwise is stuck.
+-- Lowest ready task first, played to the end (document 01, "Replay"): as long as a task is ready, the lowest one is stepped. A run has
+-- finished if no task has accesses left; if it ends otherwise, it is stuck.
 use mathlib.Core.Bool.{Bool, cond, not}
 use mathlib.Core.List.{List}
 use Prim.Native.Nat.{ℕ, zero, suc, _+_, _-_, min}
@@ -13,13 +13,13 @@ use Rattle.pending.specs.Run.{taskAt}
 use Rattle.replayer.specs.StepOf.{stepOf}
 use Rattle.replayer.specs.Word.{lowestReady}
 
--- a run and its memory on the way, and the steps taken
+-- a run under way: its memory and the number of steps taken
 pub record Play : Type 0 where
   pub run : Run
   pub memory : List ℕ
   pub steps : ℕ
 
--- the ready word, and the task that it makes next
+-- the ready word, and the next task by it
 abbrev pub wordAt : List ℕ → Play → ℕ
 wordAt b x = readyOf (x .run) b .word
 
@@ -33,12 +33,12 @@ onward b x = record {
   steps = x .steps + 1;
 }
 
--- at most so many steps
+-- at most n steps
 unfoldable pub playedOf : ℕ → List ℕ → Play → Play
 playedOf zero b x = x
 playedOf (suc fuel) b x = cond (eqb (wordAt b x) 0) x (playedOf fuel b (onward b x))
 
--- the accesses left to the first n tasks, and to all: a step takes one away, so as many steps are enough
+-- the accesses left to the first n tasks, and to all; each step takes one, so this many steps are enough
 unfoldable pub leftIn : List TaskRun → ℕ → ℕ
 leftIn runs zero = 0
 leftIn runs (suc n) = leftIn runs n + (taskAt runs n .count - taskAt runs n .done)
@@ -49,7 +49,7 @@ leftOver r = leftIn (r .runs) (r .tasks)
 abbrev pub finishOf : List ℕ → Play → Play
 finishOf b x = playedOf (leftOver (x .run)) b x
 
--- the tasks below T that a run has
+-- the number of tasks below T that a run has
 abbrev pub tasksIn : ℕ → ℕ
 tasksIn tasks = min tasks maxTasks
 

@@ -1,5 +1,5 @@
--- The order of "lowest ready task first" (document 01, "Replay"): the tasks that it steps, in turn, until no task is ready. An unsound run
--- has no ready task.
+-- The order of "lowest ready task first" (document 01, "Replay"): the tasks it steps, one after another, until no task is ready. An
+-- unsound run has no ready task.
 use mathlib.Core.Bool.{cond}
 use mathlib.Core.List.{List, [], _∷_}
 use Prim.Native.Nat.{ℕ, zero, suc, _+_}
@@ -17,19 +17,19 @@ use Rattle.replayer.specs.Word.{lowestReady}
 abbrev pub nextTask : List ℕ → Run → ℕ
 nextTask b r = lowestReady (readyOf r b .word)
 
--- the run behind a task's next access
+-- the run after a task's next access
 unfoldable pub behindOf : Run → ℕ → Next → Run
 behindOf r t (Open op next) = movedOf r t next
 behindOf r t Held = r
 behindOf r t (Refused c) = r
 
--- at most so many steps
+-- at most n steps
 unfoldable pub scheduleFrom : ℕ → List ℕ → Run → List ℕ
 scheduleFrom zero b r = []
 scheduleFrom (suc fuel) b r =
     cond (eqb (readyOf r b .word) 0) [] (nextTask b r ∷ scheduleFrom fuel b (behindOf r (nextTask b r) (nextOf r b (nextTask b r))))
 
--- a step takes an access away, so as many steps as accesses are left are enough
+-- each step takes an access, so as many steps as accesses are left are enough
 abbrev pub scheduleOf : List ℕ → Run → List ℕ
 scheduleOf b r = scheduleFrom (leftOver r) b r
 

@@ -1,4 +1,4 @@
-// A run as columns: of each field of its tasks one array, which is lent where a run by value would be copied.
+// A run as columns: one array for each field of its tasks. They are lent, where a run by value would be copied.
 ghost use mathlib.Core.Path.{_≡_};
 ghost use Rattle.scheduler.specs.Laws.Columns.{columnsOf};
 use codec::limit::TASKS;

@@ -1,4 +1,4 @@
-// Lowest ready task first (document 01, "Replay"): which task goes next, and the order in which all go.
+// Lowest ready task first (document 01, "Replay"): which task is next, and the order of all steps.
 
 pub mod columns;
 pub mod lowest;

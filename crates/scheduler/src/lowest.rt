@@ -1,4 +1,4 @@
-// The lowest ready task of a run that columns hold: every play asks for it, and its task goes on.
+// The lowest ready task of a run in columns: each play asks for it, and that task moves on.
 ghost use mathlib.Core.Path.{_≡_};
 ghost use Rattle.scheduler.specs.Laws.Columns.{runOf};
 ghost use Rattle.scheduler.specs.Laws.ColumnsCode.{Columned};
@@ -10,14 +10,14 @@ use entries::Limits;
 use pending::TaskRun;
 use pending::next::Next;
 
-// The lowest ready task and its next access; or no task is ready.
+// The lowest ready task and its next access, or none if no task is ready.
 pub enum NextStep {
     Ready { task: usize, op: Op },
     Stopped,
 }
 
-// Tests the tasks from 0 on until one may go: it moves on to the place behind its access, with one more done. What is learnt of the tasks
-// that have to wait is kept in the notes.
+// Tests the tasks from 0 on until one may go: it moves on to the place after its access, with one more done. What was found about the
+// waiting tasks is kept in the notes.
 pub fn lowest(
     tasks: usize,
     objects: usize,

@@ -10,7 +10,8 @@ use codec::limit::TASKS;
 use pending::Run;
 use pending::sound::sound;
 
-// Writes the tasks from the start of the buffer, a byte a step, until no task is ready or the buffer is full, and answers how many.
+// Writes the tasks from the start of the buffer, one byte for each step, until no task is ready or the buffer is full. Returns the number
+// of steps.
 pub fn schedule(run: Run, bytes: &[u8], out: &mut [u8]) -> usize
     ensures { λ r. ⌜ r ≡ length (scheduleFrom (length (now (out .entry))) (now (bytes .entry)) run) ⌝ }
     ensures { λ r. ⌜ now (out .exit) ≡ store (now (out .entry)) 0 (scheduleFrom (length (now (out .entry))) (now (bytes .entry)) run) ⌝ }

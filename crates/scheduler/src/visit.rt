@@ -1,5 +1,5 @@
-// One task tested on the way to the lowest that is ready. For a task that has to wait, a note says how far its orderings have been tested, so
-// that no ordering is read again once it is met.
+// Tests one task in the search for the lowest ready one. For a waiting task a note says how far its orderings have been tested, so that
+// no ordering is read again once it is met.
 ghost use Prim.Native.Nat.{_≤_, _<_};
 ghost use lib.ListN.{length, getD};
 ghost use Rattle.codec.specs.Limit.{maxTasks};
@@ -13,8 +13,8 @@ use pending::next::Next;
 use pending::next::first_unmet;
 use pending::next::look_at;
 
-// What stands next for a task, held where it has no accesses left. The note of a task is the place of the access's record, and the place
-// of the first ordering before it that was not met. A step leads past that record, and so it ends the note.
+// What is next for a task; held if it has no accesses left. The note of a task is the place of the access's record and the place of the
+// first ordering before it that was unmet. A step goes past that record, and the note then says nothing.
 pub(crate) fn visit(
     x: TaskRun,
     bytes: &[u8],

@@ -1,4 +1,4 @@
--- What the program `record` answers to a text: the recording to standard output, or a message to standard error.
+-- What the program `record` writes for a text: the recording to standard output, or a message to standard error.
 use mathlib.Core.Bool.{cond, _&&_}
 use mathlib.Core.List.{List, []}
 use Prim.Native.Nat.{ℕ, _≤_}
@@ -10,12 +10,12 @@ use Rattle.script.specs.Message.{longWord, messageOf}
 use Rattle.script.specs.RecordOf.{recordOf}
 use Rattle.logs.specs.Session.{most}
 
--- what is for standard output, and what for standard error
+-- the bytes for standard output, and those for standard error
 pub record Streams : Type 0 where
   pub output : List ℕ
   pub message : List ℕ
 
--- a text has at most so many bytes
+-- the most bytes that a text can have
 abbrev pub longest : ℕ
 longest = 1048576
 
@@ -25,15 +25,15 @@ streamsOf text =
     cond (ltb longest (length text)) (record { output = []; message = longWord })
     (record { output = recordOf text .bytes; message = messageOf text (recordOf text .line) (recordOf text .number) })
 
--- every message has room in so many bytes
+-- room for every message
 abbrev pub messageRoom : ℕ
 messageRoom = 128
 
--- nothing is answered where a lent buffer is shorter than an answer can be
+-- nothing is written if a lent buffer is shorter than the longest answer
 unfoldable pub answerOf : ℕ → ℕ → List ℕ → Streams
 answerOf out message text = cond (leb most out && leb messageRoom message) (streamsOf text) (record { output = []; message = [] })
 
--- both stand at the front of their buffers, the rest of which is as it was
+-- both are at the front of their buffers, whose rest stays as it was
 pub record Answers (s : Streams) (r : Answered) (out₀ out message₀ message : List ℕ) : Type 0 where
   pub written : Appended (s .output) out₀ 0 out (r .written)
   pub told : Appended (s .message) message₀ 0 message (r .told)

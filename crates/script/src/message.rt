@@ -1,4 +1,4 @@
-// What standard error gets where there is no recording.
+// What is written to standard error if there is no recording.
 ghost use Prim.Native.Nat.{_≤_};
 ghost use lib.ListN.{length};
 ghost use Rattle.text.specs.Appended.{Appended};
@@ -8,7 +8,7 @@ use text::put_bytes;
 use text::put_field;
 use text::put_number;
 
-// Why a line stopped the text: what was expected in it, or the number that refused it.
+// Why a line stopped the text: what was expected in it, or the number of its refusal.
 fn put_reason(out: &mut [u8], at: usize, text: &[u8], line: usize, number: u32) -> usize
     requires { ⌜ (at ≤ 25) × (128 ≤ length (now out)) × (length (now text) ≤ 1048576) ⌝ }
     ensures { λ r. ⌜ Appended (reasonOf (now (text .entry)) line number) (now (out .entry)) at (now (out .exit)) r ⌝ }

@@ -1,4 +1,4 @@
--- What is proved of the definitions of this crate; nothing here has to be believed.
+-- The laws of this crate's definitions. All of them are proved; a reader does not have to trust anything here.
 pub mod PackCode
 pub mod PackSections
 pub mod SectionBySection

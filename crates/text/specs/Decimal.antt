@@ -4,7 +4,7 @@ use mathlib.Core.List.{List, [], _∷_, _++_}
 use Prim.Native.Nat.{ℕ, zero, suc, _+_, _/_, _%_}
 use lib.Dec.{ltb}
 
--- at most so many digits
+-- at most this many digits
 unfoldable pub digitsWithin : ℕ → ℕ → List ℕ
 digitsWithin zero n = []
 digitsWithin (suc k) n = cond (ltb n 10) ((48 + n) ∷ []) (digitsWithin k (n / 10) ++ ((48 + n % 10) ∷ []))
@@ -13,6 +13,6 @@ digitsWithin (suc k) n = cond (ltb n 10) ((48 + n) ∷ []) (digitsWithin k (n / 
 abbrev pub decimalOf : ℕ → List ℕ
 decimalOf n = digitsWithin 20 n
 
--- a number and the byte behind it
+-- a number and the byte after it
 abbrev pub fieldOf : ℕ → ℕ → List ℕ
 fieldOf n b = decimalOf n ++ (b ∷ [])

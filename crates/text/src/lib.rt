@@ -1,4 +1,4 @@
-// Text put into a lent buffer: each function puts its text at a place and answers the place behind it.
+// Text put into a lent buffer: each function puts its text at an offset and returns the offset after it.
 ghost use mathlib.Core.List.{[], _∷_};
 ghost use Prim.Native.Nat.{_+_, _<_, _≤_};
 ghost use lib.ListN.{length};
@@ -31,7 +31,7 @@ pub fn put_number(out: &mut [u8], at: usize, n: u64) -> usize
     put_bytes(out, at, &digits[..k])
 }
 
-// A number and the byte that parts it from what comes next.
+// A number and the byte that separates it from what comes next.
 pub fn put_field(out: &mut [u8], at: usize, n: u64, after: u8) -> usize
     requires { ⌜ at + length (fieldOf n after) ≤ length (now out) ⌝ }
     ensures { λ r. ⌜ Appended (fieldOf n after) (now (out .entry)) at (now (out .exit)) r ⌝ }

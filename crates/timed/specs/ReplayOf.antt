@@ -1,5 +1,5 @@
--- A recording opened and stepped, the lowest ready task first, until none is ready: a fold of the replayer's `readyOf` and `stepOf`, from
--- its `openOf` on. A step uses up a record, so as many turns as there are bytes are enough.
+-- A recording opened and stepped, always the lowest ready task, until none is ready: a fold of the replayer's `readyOf` and `stepOf`,
+-- starting with its `openOf`. A step uses up a record, so as many steps as there are bytes are enough.
 use mathlib.Core.Bool.{cond}
 use mathlib.Core.List.{List}
 use Prim.Native.Nat.{ℕ, zero, suc}
@@ -12,7 +12,7 @@ use Rattle.replayer.specs.StepOf.{StepOutcome, stepOf}
 use Rattle.replayer.specs.Word.{lowestReady}
 use Rattle.timed.specs.Digest.{mixedIn, stepWord}
 
--- where a replay stands: the run, the lent memory, and the digest of the answers, the opening's number at first
+-- a replay under way: the run, the lent memory, and the digest of the answers, which starts as the opening's number
 pub record Replayed : Type 0 where
   pub run : Run
   pub memory : List ℕ
@@ -28,7 +28,7 @@ stepped digest task o = record {
   digest = mixedIn digest (stepWord task (o .answer .kind) (o .answer .object) (o .answer .value) (o .answer .access));
 }
 
--- the lowest ready task, 16 where none is
+-- the lowest ready task, 16 if there is none
 abbrev pub taskNext : List ℕ → Replayed → ℕ
 taskNext b x = lowestReady (readyOf (x .run) b .word)
 

@@ -1,5 +1,5 @@
--- A recording opened, and a script of accesses run on it: a fold of the recorder's `accessOf`, from its `openOf` on. An access is four
--- numbers of the script: task, object, sort, value. What is left at the end, fewer than four, is not looked at.
+-- A recording opened, and a script of accesses run on it: a fold of the recorder's `accessOf`, starting with its `openOf`. An access is
+-- four numbers of the script: task, object, sort, value. A rest of fewer than four is ignored.
 use mathlib.Core.List.{List}
 use Prim.Native.Nat.{ℕ, zero, suc, _+_, _*_, _/_}
 use lib.ListN.{length, getD}
@@ -8,7 +8,7 @@ use Rattle.opening.specs.OpenOf.{OpenOutcome, openOf}
 use Rattle.tracker.specs.declared.State.{State}
 use Rattle.timed.specs.Digest.{mixedIn, accessWord}
 
--- where a script stands: the recorder's state, the lent memory and output, and the digest of the answers
+-- a script under way: the recorder's state, the lent memory and output, and the digest of the answers
 pub record Scripted : Type 0 where
   pub state : State
   pub memory : List ℕ

@@ -1,6 +1,6 @@
-// Many calls in one, for the bench's clock: each answers a digest of all that its calls answered, so that none can be left out. They are
-// a library of their own, with one place that calls an access and one that calls a step, as a program has: where there are two, the
-// compiler does not inline the call, and an access copies the state once more.
+// Many calls in one, for the benchmark: each returns a digest of everything its calls answered, so that none can be left out. This is a
+// library of its own in which an access and a step are each called in one place, as in a program: if they were called in two, the
+// compiler would not inline the call, and an access would copy the state once more.
 ghost use mathlib.Core.Path.{_≡_};
 ghost use Prim.Native.Nat.{_<_};
 ghost use Rattle.timed.specs.Digest.{mixedIn, accessWord, stepWord};
@@ -42,7 +42,7 @@ fn step_word(task: usize, kind: u16, object: usize, value: u32, access: usize) -
     (value as u64) + 4294967296 * above
 }
 
-// A recording opened, and a script of accesses run on it, four numbers each: task, object, sort, value. All write to one output.
+// Opens a recording and runs a script of accesses on it, four numbers each: task, object, sort, value. All write to the same output.
 #[no_mangle]
 pub extern "C" fn wk_script(
     tasks: usize,
@@ -80,8 +80,8 @@ pub extern "C" fn wk_script(
     digest
 }
 
-// A recording opened and stepped, the lowest ready task first, until none is ready. A step uses up a record, so the bytes are
-// turns enough.
+// Opens a recording and steps it, always the lowest ready task, until none is ready. A step uses up a record, so as many steps as there
+// are bytes are enough.
 #[no_mangle]
 pub extern "C" fn wk_replay(bytes: &[u8], memory: &mut [u32]) -> u64
     ensures { λ r. ⌜ r ≡ replayOf (now (bytes .entry)) (now (memory .entry)) .digest ⌝ }

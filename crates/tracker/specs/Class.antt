@@ -3,7 +3,7 @@ use mathlib.Core.Bool.{cond}
 use Prim.Native.Nat.{ℕ}
 use Rattle.codec.specs.Limit.{isWithin}
 
--- the classes' numbers; none is a refused access's
+-- the classes' numbers; a refused access has class `none`
 abbrev pub none : ℕ
 none = 0
 
@@ -19,7 +19,7 @@ fence = 3
 abbrev pub conflicting : ℕ
 conflicting = 4
 
--- the class of a row's number, and none where it numbers no row
+-- the class of a row's number, `none` if there is no such row
 unfoldable pub classOf : ℕ → ℕ
 classOf row =
     cond (isWithin 1 3 row) same

@@ -24,7 +24,7 @@ localityAfter Eight s task l = ReadExclusive task
 localityAfter Nine s task l = WriteExclusive task
 localityAfter Ten s task l = WriteExclusive task
 
--- what a row leaves in Seen(T2), Took(T2), G and Last
+-- what a row sets in Seen(T2), Took(T2), G and Last
 pub record Effect : Type 0 where
   pub seen : ℕ
   pub took : ℕ
@@ -42,7 +42,7 @@ numberNow s task = doneOf s task + 1
 abbrev pub fenceSeen : ℕ → Locality → ℕ
 fenceSeen shares l = shareOf l
 
--- row 5 makes share G + 1 at (T2, k), row 6 catches up with the object's share, and row 8 keeps k
+-- row 5 makes share G + 1 at (T2, k), row 6 sets Seen, and row 8 keeps k
 unfoldable pub effectOf : Row → State → ℕ → Locality → Effect
 effectOf One s task l = unchanged s task
 effectOf Two s task l = unchanged s task
@@ -70,7 +70,7 @@ effectOf Eight s task l = record {
 effectOf Nine s task l = unchanged s task
 effectOf Ten s task l = unchanged s task
 
--- the object's record, the task's entries, G and Last are set, and Done rises by one for the task alone
+-- sets the object's record, the task's entries, G and Last; Done grows by one for that task only
 abbrev pub stepped : State → ℕ → ℕ → Locality → Effect → State
 stepped s task object l e = record {
   tasks = s .tasks;

@@ -1,4 +1,4 @@
--- The state that opening makes (document 01: "Opening makes each object write-held by its owner"; all else is 0).
+-- The state after opening (document 01: "Opening makes each object write-held by its owner"; everything else is 0).
 use mathlib.Core.List.{List}
 use Prim.Native.Nat.{ℕ, zero, suc}
 use lib.ListN.{getD, set, replicate}

@@ -1,4 +1,4 @@
--- A test of every number below a bound.
+-- A test for every number below a bound.
 use mathlib.Core.Bool.{Bool, true, _&&_}
 use Prim.Native.Nat.{ℕ, zero, suc}
 

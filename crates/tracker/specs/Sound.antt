@@ -13,17 +13,17 @@ use Rattle.tracker.specs.declared.Locality.{Locality}
 use Rattle.tracker.specs.declared.Locality.the-variants.{WriteExclusive, ReadExclusive, ReadShared}
 use Rattle.tracker.specs.declared.State.{State}
 
--- "G above 0 without Last"; of a Last that is kept: "any task kept not below T", and "Last beyond that task's Done".
--- A Last of number 0 is none, so its task is not kept. A Last with G = 0 is not on the list.
+-- "G above 0 without Last"; for a Last that exists: "any task kept not below T", and "Last beyond that task's Done". A Last with number 0
+-- means none, so its task does not count as kept. A Last with G = 0 is not on the list.
 unfoldable pub lastSound : Position → ℕ → ℕ → List ℕ → Bool
 lastSound last tasks shares done =
     cond (eqb (last .number) 0) (eqb shares 0) (ltb (last .task) tasks && leb (last .number) (getD done (last .task) 0))
 
--- of a task: "Done above 65,535", "any share number above G" for its Seen, "Took beyond its Done"
+-- for a task: "Done above 65,535", "any share number above G" for its Seen, "Took beyond its Done"
 unfoldable pub taskSound : ℕ → ℕ → ℕ → ℕ → Bool
 taskSound done seen took shares = leb done maxAccesses && leb seen shares && leb took done
 
--- of an object: "any task kept not below T" for its holder, "an object's share number 0", "any share number above G"
+-- for an object: "any task kept not below T" for its holder, "an object's share number 0", "any share number above G"
 unfoldable pub objectSound : Locality → ℕ → ℕ → Bool
 objectSound (WriteExclusive holder) tasks shares = ltb holder tasks
 objectSound (ReadExclusive holder) tasks shares = ltb holder tasks
@@ -32,7 +32,7 @@ objectSound (ReadShared share) tasks shares = isWithin 1 shares share
 abbrev pub taskSoundAt : List ℕ → List ℕ → List ℕ → ℕ → ℕ → Bool
 taskSoundAt done seen took shares i = taskSound (getD done i 0) (getD seen i 0) (getD took i 0) shares
 
--- each task, and "G above the sum of Done"
+-- every task, and "G above the sum of Done"
 unfoldable pub tasksSound : ℕ → ℕ → List ℕ → List ℕ → List ℕ → Bool
 tasksSound tasks shares done seen took = allBelow (taskSoundAt done seen took shares) tasks && leb shares (sumOf done tasks)
 

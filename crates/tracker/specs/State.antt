@@ -1,4 +1,4 @@
--- The recorder's state (document 01, "Tasks, objects, positions"): what is kept of each task and of each object.
+-- The recorder's state (document 01, "Tasks, objects, positions"): what is kept for each task and for each object.
 use Prim.Native.Nat.{ℕ}
 use lib.ListN.{getD, replicate}
 use Rattle.codec.specs.declared.Position.{Position}
@@ -20,7 +20,7 @@ seenOf s task = getD (s .seen) task 0
 abbrev pub tookOf : State → ℕ → ℕ
 tookOf s task = getD (s .took) task 0
 
--- an object that one task has for writing
+-- an object that one task holds for writing
 abbrev pub owned : ℕ → ObjectRecord
 owned task = record { locality = WriteExclusive task }
 
@@ -28,19 +28,19 @@ owned task = record { locality = WriteExclusive task }
 abbrev pub localityOf : State → ℕ → Locality
 localityOf s object = getD (s .records) object (owned 0) .locality
 
--- T1 in the table: the task that has an object alone, and 0 of a shared one
+-- T1 in the table: the task that holds an object alone, 0 for a shared one
 abbrev pub holderOf : Locality → ℕ
 holderOf (WriteExclusive task) = task
 holderOf (ReadExclusive task) = task
 holderOf (ReadShared share) = 0
 
--- c in the table: the share number of a shared object, and 0 of any other
+-- c in the table: the share number of a shared object, 0 for any other
 abbrev pub shareOf : Locality → ℕ
 shareOf (WriteExclusive task) = 0
 shareOf (ReadExclusive task) = 0
 shareOf (ReadShared share) = share
 
--- the position (S, s), and the one that stands for none
+-- the position (S, s), and the one that means none
 abbrev pub position : ℕ → ℕ → Position
 position task number = record { task = task; number = number }
 

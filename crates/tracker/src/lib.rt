@@ -1,10 +1,10 @@
-// The recorder's state. What the transition table of document 01 makes of it is defined in specs/, and proved there to make sound
+// The recorder's state. How the transition table of document 01 changes it is defined in specs/, and proved there to make sound
 // histories; the code is in the crate above, `transitions`.
 use codec::Position;
 use codec::limit::OBJECTS;
 use codec::limit::TASKS;
 
-// Who has an object: one task for writing, one for reading, or every task by a share's number.
+// Who holds an object: one task for writing, one for reading, or every task by a share number.
 // Document 01: write-held by S, read-held by S, shared c.
 pub enum Locality {
     WriteExclusive(u16),
@@ -12,13 +12,13 @@ pub enum Locality {
     ReadShared(u32),
 }
 
-// What is kept of an object. Document 01: each object's record holds its state.
+// What is kept for an object. Document 01: each object's record holds its state.
 pub struct ObjectRecord {
     pub locality: Locality,
 }
 
-// The recorder's state. Document 01: T, N, the objects' records, Done, Seen, Took, G, Last.
-// There is no Last where its number is 0. Entries at T or N and above mean nothing.
+// The recorder's state. Document 01: T, N, the objects' records, Done, Seen, Took, G, Last. If Last's number is 0 there is no Last.
+// Entries from T or N on have no meaning.
 pub struct State {
     pub tasks: u16,
     pub objects: u16,
@@ -30,7 +30,7 @@ pub struct State {
     pub last: Position,
 }
 
-// A state without its objects' records: what an access may pass on by value at little cost.
+// A state without its objects' records: an access can pass this by value cheaply.
 pub struct Counters {
     pub tasks: u16,
     pub objects: u16,
@@ -55,8 +55,8 @@ pub enum Row {
     Ten,
 }
 
-// An access by the table: its row's number, the object and the entries after it, and its orderings.
-// An ordering that is not there has number 0. Row 10 orders after every other task, and its two are not there.
+// An access by the table: its row's number, the object and the task's entries after it, and its orderings. A missing ordering has number
+// 0. Row 10 orders after every other task and leaves these two empty.
 pub struct Plan {
     pub row: u8,
     pub locality: Locality,

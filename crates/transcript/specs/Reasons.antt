@@ -1,5 +1,5 @@
--- Why a play of a recording went no further, for standard error: a line for each task that has accesses left behind the last step
--- (`waits` `Waits.waitsOf`). None where every access was played, and none of bytes that are not played.
+-- Why a play of a recording got stuck, for standard error: a line for each task that has accesses left after the last step (`waits`
+-- `Waits.waitsOf`). There are none if every access was played or if the bytes are not played.
 use mathlib.Core.Bool.{cond}
 use mathlib.Core.List.{List, []}
 use Prim.Native.Nat.{ℕ}

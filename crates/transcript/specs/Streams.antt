@@ -1,4 +1,4 @@
--- What the replay program writes of a recording, on both streams.
+-- What the replay program writes for a recording, on both streams.
 use mathlib.Core.Bool.{cond}
 use mathlib.Core.List.{List, []}
 use Prim.Native.Nat.{ℕ}
@@ -15,7 +15,7 @@ pub record Streams : Type 0 where
 abbrev pub silent : Streams
 silent = record { text = []; reasons = [] }
 
--- what buffers of so many bytes are given: nothing where one is shorter than what it may have to hold
+-- what is written into buffers of these lengths: nothing if one is shorter than the longest it may have to hold
 unfoldable pub streamsWithin : ℕ → ℕ → List ℕ → Streams
 streamsWithin room whyRoom b =
     cond (ltb room most) silent

@@ -1,4 +1,4 @@
-// An access by the transition table: `decide` picks what it does; the recorder does it.
+// An access by the transition table: `decide` chooses what it does; the recorder does it.
 ghost use mathlib.Core.Path.{_≡_};
 ghost use Prim.Native.Nat.{_+_, _<_, _^_};
 ghost use Rattle.tracker.specs.State.{holderOf, shareOf};
@@ -11,7 +11,7 @@ use tracker::Locality;
 use tracker::Plan;
 use tracker::Row;
 
-// What a row may change besides the object, before the access: Seen and Took of its task, G and Last; `here` is (T2, k).
+// What a row can change besides the object, as it was before the access: Seen and Took of its task, G and Last; `here` is (T2, k).
 struct Kept {
     here: Position,
     seen: u32,
@@ -20,7 +20,7 @@ struct Kept {
     last: Position,
 }
 
-// The task that has an object alone, and 0 of a shared one.
+// The task that holds an object alone, 0 for a shared one.
 pub fn holder_of(locality: Locality) -> u16
     ensures { λ r. ⌜ r ≡ holderOf locality ⌝ }
 {
@@ -31,7 +31,7 @@ pub fn holder_of(locality: Locality) -> u16
     }
 }
 
-// The share number of a shared object, and 0 of any other.
+// The share number of a shared object, 0 for any other.
 pub fn share_of(locality: Locality) -> u32
     ensures { λ r. ⌜ r ≡ shareOf locality ⌝ }
 {
@@ -42,7 +42,7 @@ pub fn share_of(locality: Locality) -> u32
     }
 }
 
-// A row that changes the object alone: every one but 5, 6 and 8.
+// A row that changes only the object: all except 5, 6 and 8.
 fn plain(row: u8, locality: Locality, kept: Kept, first: Position) -> Plan
     ensures { λ r. ⌜ r ≡ plainPlan row locality kept first ⌝ }
 {

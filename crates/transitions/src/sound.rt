@@ -1,5 +1,5 @@
-// The soundness test of a recording state: of all but the objects' records in one pass over the tasks, and of one record. The calls go
-// over the records themselves, since a function that took them would be given a copy.
+// The soundness test of a recording state: everything except the objects' records in one pass over the tasks, and one record. The calls
+// loop over the records themselves, because a function that takes them would be given a copy.
 ghost use mathlib.Core.Path.{_≡_};
 ghost use Prim.Native.Nat.{_≤_, min};
 ghost use Rattle.codec.specs.Limit.{maxTasks, maxObjects};
@@ -13,7 +13,7 @@ use codec::limit::within;
 use tracker::Counters;
 use tracker::Locality;
 
-// Last is none, and then there is no share, or its task has made that access.
+// There is no Last and then no share, or Last's task has made that access.
 fn last_sound(last: Position, tasks: u16, shares: u32, done: [u16; TASKS]) -> bool
     requires { ⌜ tasks ≤ maxTasks ⌝ }
     ensures { λ r. ⌜ r ≡ lastSound last tasks shares done ⌝ }
@@ -70,7 +70,7 @@ fn tasks_sound(
     shares <= sum
 }
 
-// All but the objects: T and N, Last, each task.
+// Everything except the objects: T and N, Last, each task.
 pub fn counters_sound(counters: Counters) -> bool
     ensures { λ r. ⌜ r ≡ countersSound counters ⌝ }
 {
@@ -92,7 +92,7 @@ pub fn counters_sound(counters: Counters) -> bool
     tasks_sound(tasks, shares, done, seen, took)
 }
 
-// The objects that have a record; a state that is not sound may name more.
+// The number of objects that have a record; an unsound state may name more.
 pub fn objects_in(objects: u16) -> usize
     ensures { λ r. ⌜ r ≡ min objects maxObjects ⌝ }
 {

@@ -40,7 +40,7 @@ pub fn row_of(locality: Locality, task: u16, seen: u32, write: bool) -> Row
     }
 }
 
-// No row: an access that was refused.
+// No row: the access was refused.
 pub const NONE: u8 = 0;
 
 pub const SAME: u8 = 1;

@@ -1,5 +1,5 @@
--- Why a play goes no further, as text: for each task that has accesses left, rising, the first ordering before its next access that is not
--- met: `task 1 waits for access 3 of task 0 (ordering at byte 66)`.
+-- Why a play is stuck, as text: for each task that has accesses left, in ascending order, the first unmet ordering before its next
+-- access: `task 1 waits for access 3 of task 0 (ordering at byte 66)`.
 use mathlib.Core.Bool.{cond}
 use mathlib.Core.List.{List, [], _∷_, _++_}
 use Prim.Native.Nat.{ℕ, zero, suc}
@@ -8,7 +8,7 @@ use Rattle.replayer.specs.ReadyOf.{hasLeft}
 use Rattle.pending.specs.Unmet.{Unmet, none, first, unmetNext}
 use Rattle.text.specs.Decimal.{fieldOf}
 
--- `task`, `waits for access`, `of task`, `(ordering at byte`, with a space behind each
+-- `task`, `waits for access`, `of task`, `(ordering at byte`, each followed by a space
 abbrev pub taskWord : List ℕ
 taskWord = 116 ∷ 97 ∷ 115 ∷ 107 ∷ 32 ∷ []
 
@@ -21,17 +21,17 @@ sourceWords = 111 ∷ 102 ∷ 32 ∷ 116 ∷ 97 ∷ 115 ∷ 107 ∷ 32 ∷ []
 abbrev pub placeWords : List ℕ
 placeWords = 40 ∷ 111 ∷ 114 ∷ 100 ∷ 101 ∷ 114 ∷ 105 ∷ 110 ∷ 103 ∷ 32 ∷ 97 ∷ 116 ∷ 32 ∷ 98 ∷ 121 ∷ 116 ∷ 101 ∷ 32 ∷ []
 
--- the task, the number and the source of the ordering, the place of its record; nothing where all are met
+-- the task, the number and the source of the ordering, the offset of its record; nothing if all are met
 unfoldable pub waitLine : ℕ → Unmet → List ℕ
 waitLine t none = []
 waitLine t (first at p) =
     (taskWord ++ fieldOf t 32) ++ (accessWords ++ fieldOf (p .number) 32) ++ (sourceWords ++ fieldOf (p .task) 32) ++ (placeWords ++ fieldOf at 41) ++ (10 ∷ [])
 
--- of a task of a run; a task with nothing left waits for nothing
+-- for one task of a run; a task with no accesses left waits for nothing
 unfoldable pub waitOf : List ℕ → Run → ℕ → List ℕ
 waitOf b r t = cond (hasLeft r t) (waitLine t (unmetNext r b t)) []
 
--- of the first n tasks, and of all
+-- for the first n tasks, and for all
 unfoldable pub waitsIn : List ℕ → Run → ℕ → List ℕ
 waitsIn b r zero = []
 waitsIn b r (suc n) = waitsIn b r n ++ waitOf b r n
@@ -39,7 +39,7 @@ waitsIn b r (suc n) = waitsIn b r n ++ waitOf b r n
 abbrev pub waitsOf : List ℕ → Run → List ℕ
 waitsOf b r = waitsIn b r (r .tasks)
 
--- the bytes that one line can have, and the text of 16 tasks
+-- the most bytes that one line can have, and the text of 16 tasks
 abbrev pub lineMost : ℕ
 lineMost = 133
 

@@ -1,4 +1,4 @@
-// Why a play goes no further: for each task that has accesses left, the ordering that it waits for.
+// Why a play is stuck: for each task that has accesses left, the ordering it waits for.
 ghost use mathlib.Core.List.{_++_};
 ghost use Prim.Native.Nat.{_+_, _≤_};
 ghost use lib.ListN.{length};
@@ -22,7 +22,7 @@ use text::put_byte;
 use text::put_bytes;
 use text::put_field;
 
-// Words, and a number with the byte behind it.
+// Words, a number and the byte after it.
 fn put_part(out: &mut [u8], at: usize, words: &[u8], n: u64, after: u8) -> usize
     requires { ⌜ at + length (now words) + 21 ≤ length (now out) ⌝ }
     ensures { λ r. ⌜ Appended (now (words .entry) ++ fieldOf n after) (now (out .entry)) at (now (out .exit)) r ⌝ }
@@ -32,7 +32,7 @@ fn put_part(out: &mut [u8], at: usize, words: &[u8], n: u64, after: u8) -> usize
     put_field(out, end, n, after)
 }
 
-// The task, the access that it waits for and the place of the ordering's record.
+// The task, the access it waits for and the offset of the ordering's record.
 fn put_line(out: &mut [u8], at: usize, task: usize, source: u16, number: u16, place: usize) -> usize
     requires { ⌜ at + lineMost ≤ length (now out) ⌝ }
     ensures { λ r. ⌜ Appended (waitLine task (first place (record { task = source; number = number }))) (now (out .entry)) at (now (out .exit)) r ⌝ }
@@ -44,8 +44,8 @@ fn put_line(out: &mut [u8], at: usize, task: usize, source: u16, number: u16, pl
     put_byte(out, d, b'\n')
 }
 
-// The line of a task: its record, with T, N, its number and the counts done of the run. None where it has no accesses left, or none of
-// its orderings holds it.
+// The line of a task, given its record, the limits and the accesses done of the run. None if it has no accesses left or no ordering holds
+// it up.
 fn put_wait(
     out: &mut [u8],
     at: usize,
@@ -71,7 +71,7 @@ fn put_wait(
     put_line(out, at, limits.own, source, number, place)
 }
 
-// The lines of all tasks, from the start of the output; answered is their length.
+// The lines of all tasks, from the start of the output. Returns their length.
 pub fn put_waits(bytes: &[u8], run: Run, out: &mut [u8]) -> usize
     requires { ⌜ Sound run (length (now bytes)) × (waitsMost ≤ length (now out)) ⌝ }
     ensures { λ r. ⌜ Appended (waitsOf (now (bytes .entry)) run) (now (out .entry)) 0 (now (out .exit)) r ⌝ }

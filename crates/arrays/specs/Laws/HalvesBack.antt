@@ -1,4 +1,4 @@
--- A state that is stored is the state that the next call reads.
+-- Storing a state and reading it back gives the same state.
 use mathlib.Core.Path.{_≡_, refl, sym, _∙_}
 use mathlib.Core.List.{List, [], _∷_, _++_}
 use Prim.Native.Nat.{ℕ, _+_, _<_}
@@ -23,7 +23,7 @@ record-back (WriteExclusive task) = refl
 record-back (ReadExclusive task) = refl
 record-back (ReadShared share) = refl
 
--- an entry of the front part of a list, and one behind it
+-- an entry of a list's first part, and an entry of its second part
 front : (f : ℕ → ℕ) (n k : ℕ) (ys : List ℕ) → k < n → getD (each f n ++ ys) k 0 ≡ f k
 front f n k ys h = List·getD-append (each f n) ys 0 k (omega (arith, each-length f n)) ∙ each-at f n k 0 h
 

@@ -1,4 +1,4 @@
--- How a state is stored, over plain variables.
+-- Laws for the code that stores a state.
 use mathlib.Core.Path.{_≡_, refl}
 use mathlib.Core.List.{List, _∷_, _++_, append-assoc}
 use Prim.Native.Nat.{ℕ, _+_, _<_}
@@ -12,7 +12,7 @@ use Rattle.pending.specs.Each.{each}
 use Rattle.arrays.specs.Halves.{movedTo}
 use Rattle.arrays.specs.Laws.Stores.{store-set, store-swap, store-more}
 
--- two parts of one list, entry by entry: the first n of each are stored
+-- two parts of one list are filled together: the first n entries of each are stored
 abbrev pub two : List ℕ → ℕ → ℕ → (ℕ → ℕ) → (ℕ → ℕ) → ℕ → List ℕ
 two l at next f g n = store (store l at (each f n)) next (each g n)
 
@@ -29,7 +29,7 @@ unfolding store each
 one-none l at f = refl
 
 module _ (l done took cases holders : List ℕ) (d : length done ≡ maxTasks) (t : length took ≡ maxTasks) (c : length cases ≡ maxObjects) where
-  -- the objects' parts and then the tasks' are one part
+  -- storing the objects' parts and then the tasks' gives one stored part
   parts : store (store (store (store l 36 cases) 292 holders) 4 done) 20 took ≡ store l 4 (done ++ (took ++ (cases ++ holders)))
   parts =
       let n : length (done ++ took) ≡ 32 = rw length-append (omega arith) in
@@ -55,7 +55,7 @@ unfolding store
 words-all l seen shares v h =
     rw (store-swap l 1 17 seen shares (omega arith), store-behind l 1 maxTasks seen shares h, store-set l 0 1 v (seen ++ shares) (omega arith))
 
--- an array after a call that moves the state
+-- an array after a call that changes the state
 pub moved-not : (number : ℕ) (l numbers : List ℕ) → (number ≡ 0 → ⊥) → l ≡ movedTo number l numbers
 unfolding movedTo
 moved-not number l numbers h = rw (ne-eqb number 0 h)

@@ -1,4 +1,4 @@
--- An object below N whose case means nothing makes the state unsound, so that every call on it gives 17.
+-- An object below N whose case has no meaning makes the state unsound, so every call on it answers 17.
 use mathlib.Core.Bool.{false}
 use mathlib.Core.Path.{_≡_, ap, _∙_}
 use mathlib.Core.List.{List}

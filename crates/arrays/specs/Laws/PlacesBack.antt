@@ -1,4 +1,4 @@
--- A run that is stored is the run that the next call reads.
+-- Storing a run and reading it back gives the same run.
 use mathlib.Core.Path.{_≡_, subst, sym, _∙_}
 use mathlib.Core.List.{List, [], _∷_}
 use Prim.Native.Nat.{ℕ, zero, suc, _+_, _*_, _<_}

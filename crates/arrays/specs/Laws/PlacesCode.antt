@@ -1,4 +1,4 @@
--- The loop that stores a run, over plain variables.
+-- Laws for the loop that stores a run.
 use mathlib.Core.Path.{_≡_, refl}
 use mathlib.Core.List.{List}
 use Prim.Native.Nat.{ℕ, zero, suc, _+_, _*_}

@@ -1,4 +1,4 @@
--- A test with the equation that says how it went, for proofs by cases.
+-- A test together with the equation for its outcome, for proofs by cases.
 use mathlib.Core.Path.{_≡_, refl, sym, _∙_}
 use mathlib.Core.Bool.{Bool, true, false, _&&_, true≢false}
 
@@ -10,7 +10,7 @@ pub split : (b : Bool) → Split b
 split true = passes refl
 split false = fails refl
 
--- one test cannot go both ways
+-- a test is not both true and false
 pub never : (b : Bool) → b ≡ true → b ≡ false → ⊥
 never b p q = true≢false (sym p ∙ q)
 

@@ -21,14 +21,14 @@ pub store-length : (l : List ℕ) (at : ℕ) (bs : List ℕ) → length (store l
 unfolding store
 store-length l at bs = length-sets l at bs
 
--- bytes stored one run behind another are stored as one run
+-- storing two byte strings one after the other is storing them joined
 pub store-append : (l : List ℕ) (at : ℕ) (xs ys : List ℕ) → store (store l at xs) (at + length xs) ys ≡ store l at (xs ++ ys)
 unfolding store
 store-append l at [] ys = rw add-zero
 store-append l at (x ∷ xs) ys =
     ap (λ (n : ℕ). sets (sets (set l at x) (suc at) xs) n ys) (omega arith) ∙ store-append (set l at x) (suc at) xs ys
 
--- the same, where the place is written with the first run's length as a number
+-- the same, with the first string's length given as a number
 pub store-behind : (l : List ℕ) (at n : ℕ) (xs ys : List ℕ) → length xs ≡ n → store (store l at xs) (at + n) ys ≡ store l at (xs ++ ys)
 store-behind l at n xs ys h = rw (← h) (store-append l at xs ys)
 
@@ -36,11 +36,11 @@ pub store-split : (l : List ℕ) (at : ℕ) (bs : List ℕ) → at + length bs �
 unfolding store
 store-split l at bs h = sets-eq bs l at h
 
--- what is stored at the front of a list that has room for it
+-- storing at the front of a list that is long enough
 pub store-front : (out bytes : List ℕ) (n : ℕ) → length bytes ≡ n → n ≤ length out → take n (store out 0 bytes) ≡ bytes
 store-front out bytes n e h = rw (store-split out 0 bytes (omega arith)) (take-at bytes (drop (0 + length bytes) out) n e)
 
--- bytes copied to the start of the part from a place on
+-- copying bytes to the start of the part that begins at an index
 pub store-copied : (l bytes part : List ℕ) (at : ℕ) → at + length bytes ≤ length l
     → part ≡ take (length bytes) bytes ++ drop (length bytes) (take (length l - at) (drop at l))
     → take at l ++ (part ++ drop (length l - at) (drop at l)) ≡ store l at bytes

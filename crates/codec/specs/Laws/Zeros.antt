@@ -1,4 +1,4 @@
--- A list of zeros has 0 at every place, and past its end.
+-- A list of zeros has 0 at every index, also past its end.
 use mathlib.Core.Path.{_≡_, refl}
 use Prim.Native.Nat.{ℕ, zero, suc}
 use lib.ListN.{getD, replicate}

@@ -32,7 +32,7 @@ take-min k [] = take-nil (min k 0) ∙ sym (take-nil k)
 take-min zero (x ∷ l) = let e : min 0 (suc (length l)) ≡ 0 = omega arith in rw e
 take-min (suc k) (x ∷ l) = let e : min (suc k) (suc (length l)) ≡ suc (min k (length l)) = omega arith in rw e (ap (λ (t : List ℕ). x ∷ t) (take-min k l))
 
--- the part up to a place past the end is the part up to the end
+-- a part that ends past the list's end is the part up to the list's end
 pub part-min : (from to : ℕ) (b : List ℕ) → part from (min to (length b)) b ≡ part from to b
 unfolding part
 part-min from to b =
@@ -47,11 +47,11 @@ pub part-none : (from to : ℕ) (b : List ℕ) → to ≤ from → part from to 
 unfolding part
 part-none from to b h = let e : to - from ≡ 0 = omega arith in rw e
 
--- what stands from a place on
+-- everything from an index on
 pub rest-all : (at : ℕ) (b : List ℕ) → take (length b - at) (drop at b) ≡ drop at b
 rest-all at b = take-all (length b - at) (drop at b) (rw length-drop (omega arith))
 
--- a run of bytes some way behind a place, as a part of the whole
+-- some bytes at a distance from an index, as a part of the whole
 pub rest-part : (skip size at : ℕ) (b : List ℕ) → part (at + skip) (at + skip + size) b ≡ take size (drop skip (drop at b))
 unfolding part
 rest-part skip size at b = let e : at + skip + size - (at + skip) ≡ size = omega arith in rw (e, drop-drop)

@@ -1,4 +1,4 @@
--- The text of a fault as the code puts it into a buffer.
+-- The text of a fault as the code writes it into a buffer.
 use mathlib.Core.Path.{_≡_, ap, _∙_, sym}
 use mathlib.Core.Bool.{true, false}
 use mathlib.Core.List.{List}
@@ -18,7 +18,7 @@ use Rattle.faults.specs.Kind.{firstOf}
 use Rattle.faults.specs.Reading.{readingOf, Stands, objectsOf}
 use Rattle.faults.specs.Stop.{Stop, stopOf, Stops}
 
--- a line whose reading stopped, at its end or at a word
+-- a line whose reading stopped at its end or at a word
 module _ (kind : Kind) (n : ℕ) (line : List ℕ) (e : Expected) (size : ℕ) (f : e ≡ firstOf kind) (b : take size line ≡ bareOf line)
     (r : Stopped) (x : Stops (stopOf e 0 (wordsIn (take size line))) (take size line) r) where
   stop : Stop
@@ -43,7 +43,7 @@ module _ (kind : Kind) (n : ℕ) (line : List ℕ) (e : Expected) (size : ℕ) (
   unfolding stopText stop
   line-wrong h a = rw (← line-stop, ne-eqb (length (stop .word)) 0 (λ z. omega (arith, stop-length, x .ordered)), ← x .expected, ← x .word) a
 
--- the line that is there, and the one that is missing
+-- a line that the text has, and a missing line
 module _ (text : List ℕ) (line : ℕ) (p : Place) (x : Stands (readingOf text line) text p) where
   pub fault-missing : {out after : List ℕ} {at end : ℕ} → p .there ≡ false → Appended (missingText (p .kind)) out at after end → Appended (faultText text line) out at after end
   unfolding readingText

@@ -1,4 +1,4 @@
--- A name as the code has it, with blanks behind it.
+-- A name as the code stores it, padded with blanks.
 use mathlib.Core.Path.{_≡_}
 use mathlib.Core.List.{List}
 use Prim.Native.Nat.{ℕ, _≤_}

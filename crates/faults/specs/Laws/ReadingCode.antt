@@ -22,7 +22,7 @@ module _ (line : ℕ) (k : Kind) (l : Line) (ls : List Line) where
   unfolding readingIn
   reading-on h = rw (ne-eqb (l .number) line h)
 
--- the answers, where the search is known to end so
+-- the answers, where the search is known to end
 pub stands-here : (d : Reading) (text : List ℕ) (k : Kind) (from to : ℕ) → record { kind = k; there = true; bytes = take (to - from) (drop from text) } ≡ d → from ≤ to → to ≤ length text
     → Stands d text (record { kind = k; there = true; from = from; to = to })
 stands-here d text k from to h i j = record {

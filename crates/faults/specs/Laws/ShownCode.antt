@@ -11,7 +11,7 @@ use Rattle.text.specs.Appended.{Appended}
 use Rattle.text.specs.Laws.Appended.{nothing, one-byte, joined}
 use Rattle.faults.specs.Shown.{shownByte, shownOf, dotsWord}
 
--- a word's bytes, one after another
+-- a word's bytes, one by one
 map-more : (f : ℕ → ℕ) (w : List ℕ) (i : ℕ) → i < length w → map f (take (suc i) w) ≡ map f (take i w) ++ (f (getD w i 0) ∷ [])
 map-more f [] i h = absurd (let z : ⊥ = omega arith in z)
 map-more f (b ∷ w) zero h = refl

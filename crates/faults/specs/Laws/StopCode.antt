@@ -19,7 +19,7 @@ module _ (e : Expected) (k : ℕ) (w : List ℕ) (ws : List (List ℕ)) where
   unfolding stopOf
   stop-off p = rw p
 
--- the answer, where a reading is known to stop so
+-- the answer, where the reading is known to stop
 pub stopped : (s : Stop) (line : List ℕ) (e : Expected) (k from to : ℕ) → record { expected = e; words = k; word = take (to - from) (drop from line) } ≡ s → from ≤ to → to ≤ length line
     → Stops s line (record { expected = e; words = k; from = from; to = to })
 stopped s line e k from to h i j = record {

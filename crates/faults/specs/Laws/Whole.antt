@@ -1,4 +1,4 @@
--- A line is explained as wrong exactly where it is not taken.
+-- A line is reported as wrong exactly if it is not accepted.
 use mathlib.Core.Path.{_≡_, refl, _∙_, sym}
 use mathlib.Core.Bool.{Bool, true, false, _&&_, _||_}
 use mathlib.Core.List.{List, [], _∷_, map}
@@ -23,7 +23,7 @@ use Rattle.faults.specs.Expected.{formOf, isLetter, fitsAs, behindOf, ne
 use Rattle.faults.specs.Stop.{stopOf}
 use Rattle.faults.specs.Whole.{endsWell, isWhole}
 
--- a word has a byte
+-- every word has at least one byte
 Filled : List (List ℕ) → Type 0
 Filled [] = Unit {0}
 Filled (w ∷ ws) = (0 < length w) × Filled ws
@@ -38,7 +38,7 @@ words-filled : (l : List ℕ) → Filled (wordsIn l)
 unfolding wordsIn
 words-filled l = filled-all (piecesOf l)
 
--- tests together
+-- combining tests
 and-false : (a : Bool) → (a && false) ≡ false
 and-false true = refl
 and-false false = refl
@@ -57,7 +57,7 @@ and-swap true false c = refl
 and-swap false true c = refl
 and-swap false false c = refl
 
--- the reading of one word more
+-- reading one more word
 module _ (kind : Kind) (n : ℕ) (e : Expected) (k : ℕ) where
   whole-end : isWhole kind n (stopOf e k []) ≡ endsWell kind n e k
   unfolding isWhole stopOf
@@ -160,7 +160,7 @@ access-words n (a ∷ b ∷ c ∷ d ∷ e ∷ ws) h =
 pub access-whole : (n : ℕ) (line : List ℕ) → askedOf (fieldsOf line) .good ≡ isWhole Access n (stopOf Task 0 (wordsOf line))
 access-whole n line = access-words n (wordsOf line) (words-filled _)
 
--- the word that is shown is not as expected
+-- the word shown in the message is not what was expected
 pub word-unfit : (e : Expected) (k : ℕ) (ws : List (List ℕ)) → 0 < length (stopOf e k ws .word) → fitsAs (stopOf e k ws .expected) (fieldOf (stopOf e k ws .word)) ≡ false
 unfolding stopOf
 word-unfit e k [] h = absurd (let z : ⊥ = omega arith in z)

@@ -1,5 +1,5 @@
--- The recorder's side of the claim: the recording that any calls from an accepted opening end in reads as the recording of the
--- history of its accepted accesses, and the box's memory is that history's reference memory.
+-- The recorder's side of demand 3: after any calls from an accepted opening the recording reads as the history of the accepted accesses,
+-- and the box's memory is that history's reference memory.
 use mathlib.Core.List.{List}
 use mathlib.Core.Path.{_≡_, refl, sym, _∙_}
 use Prim.Native.Nat.{ℕ, _+_, _≤_, _<_}
@@ -63,7 +63,7 @@ module _ (o : Opening) (accepted : openedBy o .answer .number ≡ 0) where
     pub memory-each : length (lastBox o asked .memory) ≡ o .objects
     memory-each = follows .memory-each
 
-    -- with outputs long enough no section is turned away
+    -- with outputs long enough no section is refused
     pub sections-accepted : (t : ℕ) → t < o .tasks → (out : List ℕ) → 12 + length (lastBox o asked .logs t) ≤ length out
         → sectionOf (lastBox o asked .state) t (lastBox o asked .logs t) out .answer .number ≡ 0
     sections-accepted t low out room = section-accepted follows t low out room

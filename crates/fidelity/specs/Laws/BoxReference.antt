@@ -1,4 +1,4 @@
--- Each access answers what the reference memory (document 01: the paper box) says, and the box's memory ends equal to it.
+-- Each access answers what the reference memory (document 01: the paper box) says, and the box's memory ends up equal to it.
 use mathlib.Core.Bool.{Bool, true, false, cond}
 use mathlib.Core.List.{List, [], _∷_}
 use mathlib.Core.Path.{_≡_, refl, ap, ap₂, _∙_}
@@ -32,7 +32,7 @@ module _ (b : Box) (c : AccessCall) where
     | turnedAway a x s ↦ rw (a, s)
   ]
 
--- any calls, from any box and its memory
+-- any calls, starting from any box and its memory
 calls-answer : (b : Box) (memory : List ℕ) (calls : List Call) → b .memory ≡ memory → answersFrom b calls ≡ referenceValues memory (fedFrom b calls)
 unfolding answersFrom referenceValues fedFrom
 calls-answer b memory [] e = refl

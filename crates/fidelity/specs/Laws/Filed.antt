@@ -10,7 +10,7 @@ use Rattle.history.specs.History.{History, count}
 use Rattle.history.specs.Laws.History.{count-none, count-own, count-other}
 use Rattle.fidelity.specs.Filed.{filedOf}
 
--- as many as the task has made
+-- the number of accesses the task has made
 pub filed-count : (t : ℕ) (h : History) → length (filedOf t h) ≡ count t h
 unfolding filedOf
 filed-count t [] = sym (count-none t)

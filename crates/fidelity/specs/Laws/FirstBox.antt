@@ -1,4 +1,4 @@
--- An accepted opening: what its arguments have, what it leaves, and so what holds of the box after any calls from it.
+-- An accepted opening: facts about its arguments and its result, and what therefore holds after any calls.
 use mathlib.Core.List.{List, [], _∷_}
 use mathlib.Core.Path.{_≡_, refl}
 use Prim.Native.Nat.{ℕ, zero, suc, _<_}

@@ -1,5 +1,5 @@
--- What holds of the box after any calls from an accepted opening: state, memory and history are the tracker's, each log is the bytes
--- of its task's entries, and those are in range. The opening makes it hold, and each call keeps it.
+-- What holds after any calls from an accepted opening: the state, the memory and the history follow the tracker, each log is the bytes of
+-- its task's entries, and these are in range. It holds after opening, and each call keeps it.
 use mathlib.Core.Bool.{Bool, true, false, cond}
 use mathlib.Core.List.{List, [], _∷_, _++_, append-nil, append-assoc}
 use mathlib.Core.Path.{_≡_, subst, _∙_}
@@ -30,7 +30,7 @@ use Rattle.fidelity.specs.Laws.OneCall.{fileEntry, historyEntry, boxAfte
 abbrev pub limits : ℕ → ℕ → ℕ → Limits
 limits tasks objects t = record { tasks = tasks; objects = objects; own = t }
 
--- one entry more behind a body
+-- a body with one more entry at its end
 body-more : (es : List FileEntry) (e : FileEntry) → bodyBytes (es ++ (e ∷ [])) ≡ bodyBytes es ++ entryBytes e
 unfolding bodyBytes
 body-more [] e = append-nil (entryBytes e)
@@ -40,7 +40,7 @@ entries-more : (m : Limits) (es : List FileEntry) (e : FileEntry) → EntriesIn 
 entries-more m [] e i j = (j, tt)
 entries-more m (x ∷ es) e i j = (i .0, entries-more m es e (i .1) j)
 
--- a task's body has as many entries as the history has of it
+-- a task's body has as many entries as the history has for that task
 pub record Follows (start : ℕ → ℕ) (tasks objects : ℕ) (b : Box) (h : History) : Type 0 where
   pub tracks : Tracks start (b .state) (λ c. getD (b .memory) c 0) h
   pub tasks-are : b .state .tasks ≡ tasks

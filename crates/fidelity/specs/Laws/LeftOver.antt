@@ -1,4 +1,4 @@
--- What is left of a task's accesses once it has done some of them: in the recording's form, oldest first.
+-- The accesses a task has left after it has done some of them, in the form of the recording, oldest first.
 use mathlib.Core.Bool.{cond}
 use mathlib.Core.List.{List, [], _∷_, _++_}
 use mathlib.Core.Option.{some}
@@ -17,12 +17,12 @@ use Rattle.history.specs.Replay.{next}
 use Rattle.history.specs.Laws.Ready.{next-access}
 use Rattle.fidelity.specs.Filed.{filed, filedOf}
 
--- task t's accesses past the first n
+-- task t's accesses after the first n
 unfoldable pub leftOf : ℕ → ℕ → History → List FileEntry
 leftOf t n [] = []
 leftOf t n (e ∷ g) = cond (eqb (e .task) t) (cond (leb n (count t g)) (leftOf t n g ++ (filed e ∷ [])) []) (leftOf t n g)
 
--- at first all of them
+-- at the start all of them
 pub left-all : (t : ℕ) (h : History) → leftOf t 0 h ≡ filedOf t h
 unfolding leftOf filedOf
 left-all t [] = refl
@@ -50,6 +50,6 @@ left-at t n {e = e} (there {f = f} {h = h} a) p q = elim (ℕ-discrete (f .task)
   | no z ↦ rw (ne-eqb (f .task) t z) (left-at t n a p q)
 ]
 
--- the first that is left is the next
+-- the first one left is the next one
 pub left-next : (t n : ℕ) (h : History) (e : Entry) → next t n h ≡ some e → leftOf t n h ≡ filed e ∷ leftOf t (suc n) h
 left-next t n h e p = let a = next-access t n h e p in left-at t n (a .at) (a .own) (omega (arith, a .number))

@@ -1,4 +1,4 @@
--- Bytes that read as a recording of a history: what the replay's side of the claim rests on, and the recorder's side gives.
+-- Bytes that read as a recording of a history: the replay's side of demand 3 assumes this, and the recorder's side proves it.
 use mathlib.Core.List.{List, []}
 use mathlib.Core.Path.{_≡_}
 use Prim.Native.Nat.{ℕ, _<_}
@@ -10,7 +10,7 @@ use Rattle.history.specs.History.{History, At}
 use Rattle.history.specs.Sound.{Sound}
 use Rattle.fidelity.specs.Filed.{filedOf}
 
--- an act that a record stands for: a read or a write
+-- an act that a record can represent: a read or a write
 abbrev pub Recordable : Act → Type 0
 Recordable (Act.read c v) = Unit {0}
 Recordable (Act.write c v) = Unit {0}

@@ -1,4 +1,4 @@
--- One access on the box, by its number: an accepted one leaves what the table says, and a refused one leaves all as it was.
+-- One access on the box, by its number: an accepted one leaves what the table says, a refused one changes nothing.
 use mathlib.Core.Bool.{Bool, true, false, cond}
 use mathlib.Core.List.{List, [], _++_, append-nil}
 use mathlib.Core.Path.{_≡_, refl, ap, fun-ext, sym}
@@ -77,7 +77,7 @@ module _ (b : Box) (c : AccessCall) where
     | fails p ↦ away _ p (number-refused (b .state) (c .task) (c .object) (c .sort) (c .value) (b .memory) (c .out) (eqb-false _ _ p))
   ]
 
-  -- the entry in the history and the entry in the recording
+  -- the entry in the history is the entry in the recording
   pub entry-filed : filed (historyEntry b c) ≡ fileEntry b c
   entry-filed = go (isWrite (c .sort))
     where
@@ -86,7 +86,7 @@ module _ (b : Box) (c : AccessCall) where
       go true = refl
       go false = ap (λ (o : Op). record { orderings = writtenOf (b .state) (c .task) (c .object) false; op = o }) (op-read (c .object) (getD (b .memory) (c .object) 0) (c .value))
 
--- memory by object, after an access to an object that it has
+-- memory by object, after an access to one of its objects
 pub memory-after : (memory : List ℕ) (object : ℕ) (write : Bool) (value : ℕ) → object < length memory
     → trackedMemory (λ c. getD memory c 0) object write value ≡ (λ c. getD (memoryAfter write object value memory) c 0)
 memory-after memory object false value h = refl

@@ -1,5 +1,5 @@
--- The sections of the box's logs: each log is a body in range, so an output with room is not turned away; and what accepted sections
--- wrote, joined, is the sections of the tasks' bodies.
+-- The sections of the box's logs: each log is a body in range, so a section is accepted if the output has room; and what accepted
+-- sections wrote, joined together, is the sections of the tasks' bodies.
 use mathlib.Core.List.{List, []}
 use mathlib.Core.Path.{_≡_, refl, sym, _∙_}
 use Prim.Native.Nat.{ℕ, zero, suc, _+_, _≤_, _<_}
@@ -54,7 +54,7 @@ section-wrote s t log out z = elim (split (eqb (sectionChecked s t log (length o
 ]
 
 module _ {start : ℕ → ℕ} {tasks objects : ℕ} {b : Box} {h : History} (f : Follows start tasks objects b h) where
-  -- Done is the body's length, and it fits
+  -- Done is the body's length, and it is within its limit
   done-is : (t : ℕ) → doneOf (b .state) t ≡ length (filedOf t h)
   done-is t = tracks-done (f .tracks) t ∙ sym (filed-count t h)
 
@@ -78,7 +78,7 @@ module _ {start : ℕ → ℕ} {tasks objects : ℕ} {b : Box} {h : History} (f 
         (body-back (limits tasks objects t) (record { tasks = omega (arith, sound .tasks-fit, f .tasks-are); objects = omega (arith, sound .objects-fit, f .objects-are) }) 0
         (filedOf t h) (f .entries t)))
 
-    -- an output with room is enough
+    -- an output with room is enough for the section to be accepted
     pub section-accepted : (out : List ℕ) → 12 + length (b .logs t) ≤ length out → sectionOf (b .state) t (b .logs t) out .answer .number ≡ 0
     unfolding sectionOf sectionChecked logChecked
     section-accepted out room = rw (

@@ -1,4 +1,4 @@
--- The replay's side of demand 3: for bytes that record a history, every list of steps, by what is proved of the history's replay.
+-- The replay's side of demand 3: every list of steps over bytes that record a history, by what is proved about replaying the history.
 use mathlib.Core.Bool.{Bool, true, false}
 use mathlib.Core.List.{List}
 use mathlib.Core.Logic.{_↔_}
@@ -54,7 +54,7 @@ act-of q = cc
 tasks-in : (tasks : ℕ) → tasksIn tasks ≤ tasks
 tasks-in tasks = omega arith
 
--- a step that is not taken leaves all as it was
+-- a step that is not taken changes nothing
 pub refused-changes-nothing : (bytes : List ℕ) (b : Bench) (t : ℕ) → takesBy bytes b t ≡ false → stepped bytes b t ≡ b
 refused-changes-nothing bytes b t q =
     let w = refused-stays (b .run) bytes (b .memory) t (eqb-false _ _ q) in
@@ -79,7 +79,7 @@ module _ (start : ℕ → ℕ) (h : History) (bytes : List ℕ) (p : Parsed) (m 
   alike : (steps : List ℕ) (t : ℕ) → Alike h bytes tasks objects (after start h steps) (steppedAll bytes first steps) t
   alike steps t = sim-step h bytes tasks objects (holds start h bytes p m) (after start h steps) (steppedAll bytes first steps) (sim steps) t
 
-  -- done on the bench is done in the history's replay
+  -- the accesses done on the bench are those done in the history's replay
   done-same : (steps : List ℕ) → (λ t. tallyOfBy t bytes first steps) ≡ after start h steps .done
   done-same steps = fun-ext (λ t. tally-of-same h bytes tasks objects (holds start h bytes p m) t (fresh start) first (sim-start start h bytes p m memory z) steps
       ∙ sym (ideal .done-is-tally steps t))
@@ -102,7 +102,7 @@ module _ (start : ℕ → ℕ) (h : History) (bytes : List ℕ) (p : Parsed) (m 
       let v : shown (e .act) (s .memory) ≡ f .act = act-of (sym (w .replies) ∙ replies) in
       rw d (f, access, w .number, rw v at (w .shows))
 
-  -- the bench's run is sound after any steps, so its word is that of the ready tasks
+  -- the bench's run is sound after any steps, so its ready word gives the ready tasks
   word : (steps : List ℕ) → ReadySet (steppedAll bytes first steps .run) bytes
   word steps = ready-word (steppedAll bytes first steps .run) bytes (sim steps .sound)
 
@@ -152,7 +152,7 @@ module _ (start : ℕ → ℕ) (h : History) (bytes : List ℕ) (p : Parsed) (m 
   pub end-memory : (steps : List ℕ) → tallyBy bytes first steps ≡ length h → (c : ℕ) → c < objects → getD (steppedAll bytes first steps .memory) c 0 ≡ reference start h c
   end-memory steps q c l = sim steps .memory c l ∙ ideal .end-memory steps (sym (counts-same steps) ∙ q) c
 
-  -- where all accesses are done no task has any left
+  -- when all accesses are done, no task has any left
   pub end-finished : (steps : List ℕ) → tallyBy bytes first steps ≡ length h → finishedOf (steppedAll bytes first steps .run) ≡ true
   end-finished steps q = all-test _ _ (λ t l.
       let i = sim steps in
@@ -161,7 +161,7 @@ module _ (start : ℕ → ℕ) (h : History) (bytes : List ℕ) (p : Parsed) (m 
       let x = taskAt (steppedAll bytes first steps .run .runs) t in
       rw (le-ltb (x .done) (x .count) (omega (arith, d, i .done t, i .counts t (omega (arith, l, f, i .tasks-same))))))
 
-  -- memory after any steps: the starting values with the writes of the accesses done
+  -- memory after any steps: the starting values and the writes of the accesses done
   pub memory-of-writes : (steps : List ℕ) (c : ℕ) → c < objects → getD (steppedAll bytes first steps .memory) c 0 ≡ memoryOf start (λ t. tallyOfBy t bytes first steps) h c
   memory-of-writes steps c l = rw (done-same steps) (sim steps .memory c l ∙ ideal .memory-of-writes steps c)
 

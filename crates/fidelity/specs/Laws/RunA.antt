@@ -1,4 +1,4 @@
--- The statement's claims on memory, computed on run A: where a sham (document 01, "Sham builds") would show other values.
+-- The statement's claims about memory, computed on run A at places where a sham (document 01, "Sham builds") would show other values.
 use mathlib.Core.List.{[], _∷_}
 use mathlib.Core.Path.{refl}
 use Rattle.codec.specs.Decode.{recordOf, headOf, sectionOf as sectionOf-codec-decode, bodyOf as bodyOf-codec-decode}
@@ -36,7 +36,6 @@ use Rattle.tracker.specs.Row.{rowOf}
 use Rattle.tracker.specs.Sound.{soundOf, lastSound, taskSound, tasksSound, objectSound}
 use Rattle.tracker.specs.Sum.{sumOf}
 use Rattle.history.specs.History.{count}
-use Rattle.history.specs.Entry.{writes as writesCell, valueOf as valueOf-history-entry}
 use Rattle.history.specs.Memory.{memoryOf}
 use Rattle.history.specs.Replay.{recordedOrder}
 use Rattle.fidelity.specs.Box.{recordedFrom}
@@ -44,8 +43,8 @@ use Rattle.fidelity.specs.Bench.{steppedAll, tally as tallySteps, tallyO
 use Rattle.fidelity.specs.RunA.{opening, calls, outs, lent}
 use Rattle.fidelity.specs.Statement.{StaysAt, MemoryAt}
 
--- memory at first and after one step; and a step of task 0 that is then refused. A replay that plays all at opening would have 9 and 9
--- in object 0 where these have 0 and 7, and a refused step that clears it 0 for 7.
+-- memory at the start and after one step, and then a refused step of task 0. A replay that plays everything at opening would have 9 and 9
+-- in object 0 where these are 0 and 7; a refused step that clears it would have 0 instead of 7
 pub record Stood : Type 0 where
   pub first : MemoryAt opening calls outs lent [] 0
   pub second : MemoryAt opening calls outs lent (0 ∷ []) 0

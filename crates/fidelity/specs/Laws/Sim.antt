@@ -1,4 +1,4 @@
--- A run over bytes goes as the replay of the history that the bytes record: what the two have in common, kept by every step.
+-- A run over bytes corresponds to the replay of the history they record: the relation between the two, which every step keeps.
 use mathlib.Core.Bool.{true}
 use mathlib.Core.List.{List, [], _∷_}
 use mathlib.Core.Option.{Option, some, none}
@@ -43,7 +43,7 @@ met-same runs done [] e = refl
 met-same runs done (p ∷ l) e = rw (e (p .task), met-same runs done l e)
 
 module _ (h : History) (bytes : List ℕ) (tasks objects : ℕ) (s : State) (b : Bench) (i : Sim h bytes tasks objects s b) (t : ℕ) (low : t < tasks) where
-  -- a task is ready on the bench exactly when it is in the replay of the history
+  -- a task is ready on the bench exactly when it is ready in the history's replay
   pub sim-ready : isReadyBy (b .run) bytes t ≡ isReady h s t
   unfolding isReadyBy nextOf
   sim-ready = go (next t (s .done t) h) refl

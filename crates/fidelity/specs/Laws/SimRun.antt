@@ -1,4 +1,4 @@
--- Any list of steps over bytes goes as the history's replay goes: by the same counts, and with the same steps taken.
+-- Any list of steps over bytes goes as in the history's replay: the same steps are taken, with the same counts.
 use mathlib.Core.List.{List, [], _∷_}
 use mathlib.Core.Path.{_≡_, refl, _∙_}
 use Prim.Native.Nat.{ℕ}

@@ -1,4 +1,4 @@
--- An accepted replay opening of bytes that record a history stands where the history's replay starts.
+-- After an accepted replay opening of bytes that record a history, the run is where the history's replay starts.
 use mathlib.Core.List.{List}
 use mathlib.Core.Path.{_≡_, refl, sym, ap, _∙_}
 use Prim.Native.Nat.{ℕ}

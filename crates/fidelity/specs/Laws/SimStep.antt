@@ -1,4 +1,4 @@
--- One step over bytes and one step of the history's replay: both are taken or neither, and what they have in common is kept.
+-- One step over bytes and one step of the history's replay: both are taken or neither is, and the relation between the two is kept.
 use mathlib.Core.Bool.{true, false}
 use mathlib.Core.List.{List, _∷_}
 use mathlib.Core.Option.{some}
@@ -37,7 +37,7 @@ use Rattle.fidelity.specs.Laws.Matches.{Recordable}
 use Rattle.fidelity.specs.Laws.Sim.{Sim, sim-ready}
 use Rattle.fidelity.specs.Statement.{Shows}
 
--- an act done on a list and on a function that agree
+-- an act done on a list and on a function that agree with each other
 perform-same : (a : Act) (memory : List ℕ) (m : ℕ → ℕ) (n : ℕ) → ((c : ℕ) → c < n → getD memory c 0 ≡ m c) → length memory ≡ n → filedOp a .object < n → Recordable a
     → (c : ℕ) → c < n → getD (performed (filedOp a) memory) c 0 ≡ perform a m c
 perform-same (Act.read x v) memory m n e l low r c k = rw (op-writes false x v) (e c k)
@@ -47,7 +47,7 @@ perform-same (Act.write x v) memory m n e l low r c k = elim (ℕ-discrete x c) 
 ]
 perform-same (Act.acquire n₁) memory m n e l low r c k = absurd r
 
--- what a step answers of it
+-- what a step answers about it
 shows-same : (a : Act) (memory : List ℕ) (m : ℕ → ℕ) (n : ℕ) → ((c : ℕ) → c < n → getD memory c 0 ≡ m c) → filedOp a .object < n → Recordable a
     → (r : Stepped) → r .kind ≡ filedOp a .kind → r .object ≡ filedOp a .object → r .value ≡ valueOf (filedOp a) memory → Shows r (shown a m)
 shows-same (Act.read x v) memory m n e low rec r k o w = (ap reads k ∙ op-reads false x v, o ∙ op-object false x v, w ∙ rw (op-writes false x v, op-object) (e x (rw op-object at low)))
@@ -66,7 +66,7 @@ pub record Alike (h : History) (bytes : List ℕ) (tasks objects : ℕ) (s : Sta
   pub sim : Sim h bytes tasks objects (step h s t) (stepped bytes b t)
   pub played : takesBy bytes b t ≡ true → (e : Entry) × Played h bytes s b t e
 
--- every entry is one that a recording of so many tasks can hold
+-- every entry is one that a recording with this number of tasks can hold
 pub record Holds (h : History) (tasks : ℕ) : Type 0 where
   pub low : {e : Entry} {g : History} → At e g h → e .task < tasks
   pub recordable : {e : Entry} {g : History} → At e g h → Recordable (e .act)
@@ -160,7 +160,7 @@ module _ (h : History) (bytes : List ℕ) (tasks objects : ℕ) (holds : Holds h
         played = λ z. absurd (w .number (eqb-true _ _ z));
       }
 
-  -- the replay's own test and the bench's
+  -- the history's test for readiness and the bench's
   ready-low : isReady h s t ≡ true → t < tasks
   ready-low p = elim (step-goes h s t) [
     | taken e k ↦ let own = k .access .own in let l = holds .low (k .access .at) in rw own at l

@@ -1,5 +1,5 @@
--- DEMAND 3, proved: whatever calls were made and whatever steps are asked for, the replay is faithful. And what the statement
--- assumes can be had: with output and memory enough no section and no replay opening is turned away.
+-- DEMAND 3, proved: for all calls and all steps the replay is faithful. And its assumptions can be met: with enough output and memory no
+-- section and no replay opening is refused.
 use mathlib.Core.Bool.{true}
 use mathlib.Core.List.{List}
 use mathlib.Core.Path.{_≡_, refl, sym, _∙_}
@@ -22,7 +22,7 @@ module _ (o : Opening) (asked : List Asked) (outs : ℕ → List ℕ) (memory : 
   matches : Matches (startOf o) (recorded o asked) (recordingOf o asked outs) (parsedBy o asked)
   matches = box-matches o (a .opened) asked outs (a .packed)
 
-  -- equal value by value, and as long: equal
+  -- two lists of the same length with equal entries are equal
   ends-equal : (steps : List ℕ) → tally (recordingOf o asked outs) (benchOf (recordingOf o asked outs) memory) steps ≡ length (recorded o asked)
       → after o asked outs memory steps .memory ≡ lastBox o asked .memory
   ends-equal steps e =
@@ -34,7 +34,7 @@ module _ (o : Opening) (asked : List Asked) (outs : ℕ → List ℕ) (memory : 
   entries : (steps : List ℕ) → length (after o asked outs memory steps .memory) ≡ o .objects
   entries steps = memory-entries (startOf o) (recorded o asked) (recordingOf o asked outs) (parsedBy o asked) matches memory (a .replayed) steps ∙ owner-each o (a .opened)
 
-  -- where all accesses are done no task has any left
+  -- when all accesses are done, no task has any left
   pub run-finished : (steps : List ℕ) → tally (recordingOf o asked outs) (benchOf (recordingOf o asked outs) memory) steps ≡ length (recorded o asked)
       → finishedOf (after o asked outs memory steps .run) ≡ true
   run-finished steps e = end-finished (startOf o) (recorded o asked) (recordingOf o asked outs) (parsedBy o asked) matches memory (a .replayed) steps e
@@ -59,7 +59,7 @@ module _ (o : Opening) (asked : List Asked) (outs : ℕ → List ℕ) (memory : 
     recorded-order = recorded-order (startOf o) (recorded o asked) (recordingOf o asked outs) (parsedBy o asked) matches memory (a .replayed);
   }
 
--- with outputs that hold the logs behind their section records, and a memory of N entries, everything is accepted
+-- with outputs that have room for the section record and the log, and a memory of N entries, everything is accepted
 pub acceptance : (o : Opening) (asked : List Asked) (outs : ℕ → List ℕ) (memory : List ℕ) → openedBy o .answer .number ≡ 0
     → ((t : ℕ) → t < o .tasks → 12 + length (lastBox o asked .logs t) ≤ length (outs t)) → length memory ≡ o .objects → Accepted o asked outs memory
 acceptance o asked outs memory z room each = record {

@@ -15,7 +15,7 @@ access-bound {t} a = omega (arith, at-lt t (a .at) (a .own), a .number)
 pub access-later : {h : History} {t n : ℕ} {e f : Entry} → Access h t n e → Access (f ∷ h) t n e
 access-later a = record { before = a .before; at = there (a .at); own = a .own; number = a .number }
 
--- a task has an access of each number up to its count, and no two of one number
+-- a task has exactly one access for each number from 1 to its count
 pub access-of : (t n : ℕ) (h : History) → n < count t h → (e : Entry) × Access h t (suc n) e
 access-of t n [] l = absurd (omega (arith, count-none t))
 access-of t n (f ∷ k) l = elim (decLt n (count t k)) [

@@ -1,7 +1,6 @@
--- One access more: the heart of the proof, and why a step answers the value of the recorded access (document 01, "Whole
--- runs"). Closed counts d, and e the next access of task t, its orderings met. Then the counts with one more for t are
--- closed too; the memory of the writes that are in changes as e does; and if e is a read, that memory holds the value
--- which e got on the box.
+-- One more access: the core of the proof, and the reason why a step answers the value of the recorded access (document 01, "Whole runs").
+-- Let d be closed counts, and e the next access of task t with its orderings met. Then the counts with one more for t are closed too; the
+-- memory of the writes that are in changes as e does; and if e is a read, that memory holds the value that e returned on the box.
 use mathlib.Core.Path.{_≡_, refl, sym, ap, _∙_}
 use mathlib.Core.Bool.{true, false}
 use Prim.Native.Nat.{ℕ, suc, _<_}
@@ -31,7 +30,7 @@ module _ {h : History} (d : ℕ → ℕ) (t : ℕ) {e : Entry} (a : Access h t (
   not-yet : In d e (a .before) → ⊥
   not-yet i = let j : count t (a .before) < d t = rw (a .own) at i in omega (arith, a .number)
 
-  -- entries after e, before e, and other than e were in before if they are in now
+  -- entries after e, before e, and other than e: if they are in now, they were in before
   newer-in : (f : Entry) (k : History) → At e (a .before) k → In (oneMore t d) f k → In d f k
   newer-in f k b = in-before d t f k (λ p q. omega (arith, at-lt t b (a .own), a .number))
 
@@ -56,15 +55,15 @@ module _ {h : History} (d : ℕ → ℕ) (t : ℕ) {e : Entry} (a : Access h t (
     }
 
     module _ {start : ℕ → ℕ} (so : Sound start h) where
-      -- what comes later and writes a cell that e touches is not in: it would have e in
+      -- a later write of a cell that e touches is not in, because e would then be in too
       later-out : (x : ℕ) → touches x (e .act) ≡ true → (f : Entry) (k : History) → At f k h → At e (a .before) k → writes x (f .act) ≡ true → In d f k → ⊥
       later-out x o f k b b′ w i = not-yet (so .comes-after b b′ (write-conflicts x (f .act) (e .act) w o) c i)
 
-      -- what came earlier and wrote a cell that e touches is in: e's coming in asks for it
+      -- an earlier write of a cell that e touches is in, because closed counts with e need it
       earlier-in : (x : ℕ) → touches x (e .act) ≡ true → (f : Entry) (k : History) → At f k (a .before) → writes x (f .act) ≡ true → In d f k
       earlier-in x o f k b w = older-in f k b (so .comes-after (a .at) b (conflicts-with-write x (e .act) (f .act) o w) closed-advance now-in)
 
-      -- memory after e: its cell holds what it wrote, every other cell what it held
+      -- memory after e: its cell holds what it wrote, every other cell is unchanged
       written : (x : ℕ) → writes x (e .act) ≡ true → memoryOf start (oneMore t d) h x ≡ valueOf (e .act)
       written x w =
           memory-skip start (oneMore t d) x (a .at) (λ f k b b′ w′ i. later-out x (writes-touches x (e .act) w) f k b b′ w′ (newer-in f k b′ i))
@@ -76,7 +75,7 @@ module _ {h : History} (d : ℕ → ℕ) (t : ℕ) {e : Entry} (a : Access h t (
         λ i. omega (arith, oneMore-rises t d (f .task)),
       ))
 
-      -- a read: no later write of its cell is in, every earlier one is
+      -- a read: no later write of its cell is in, and every earlier one is
       read-value : (x v : ℕ) → e .act ≡ read x v → memoryOf start d h x ≡ v
       read-value x v p =
           let o : touches x (e .act) ≡ true = rw (p, eq-eqb x x refl) in
@@ -85,7 +84,7 @@ module _ {h : History} (d : ℕ → ℕ) (t : ℕ) {e : Entry} (a : Access h t (
           ∙ memory-all start d x (a .before) (earlier-in x o)
           ∙ sym (so .reads-last x v (a .at) p)
 
-      -- so with the replay's memory: what the step leaves in it, and what the step shows
+      -- the same for the replay's memory: what the step leaves in it, and what the step answers
       module _ (memory : ℕ → ℕ) (holds : (x : ℕ) → memory x ≡ memoryOf start d h x) where
         pub perform-holds : (x : ℕ) → perform (e .act) memory x ≡ memoryOf start (oneMore t d) h x
         perform-holds x = go (e .act) refl

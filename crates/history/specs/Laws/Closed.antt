@@ -8,12 +8,12 @@ use Rattle.history.specs.History.{History, At, here, there}
 use Rattle.history.specs.Laws.History.{at-nil}
 use Rattle.history.specs.Closed.{In, Met, Closed}
 
--- what is met stays met as tasks go on
+-- what is met stays met as tasks advance
 pub met-mono : (d d′ : ℕ → ℕ) → ((t : ℕ) → d t ≤ d′ t) → (l : List Position) → Met d l → Met d′ l
 met-mono d d′ le [] m = tt
 met-mono d d′ le (o ∷ l) m = (omega (arith, m .0, le (o .task)), met-mono d d′ le l (m .1))
 
--- closed for a history: closed for what it was before its newest entry, and closed at that entry
+-- closed for a history means closed for the history without its newest entry, and closed at that entry
 pub closed-before : {d : ℕ → ℕ} {e : Entry} {h : History} → Closed d (e ∷ h) → Closed d h
 closed-before c = record { met = λ a i. c .met (there a) i }
 

@@ -1,6 +1,6 @@
--- How many entries are in, and when all are (document 01, "Whole runs": accesses recorded and steps taken). Each access
--- more brings in one entry; so the tally of taken steps is this number, it is never above the number of entries, and it
--- equals that exactly when every task has done all of its own.
+-- How many entries are in, and when all are (document 01, "Whole runs": accesses recorded and steps taken). Each further access brings in
+-- one entry; so this number is the number of steps taken, is never above the number of entries, and equals it exactly when every task has
+-- done all its accesses.
 use mathlib.Core.Path.{_≡_, refl, _∙_}
 use mathlib.Core.List.{[], _∷_}
 use Prim.Native.Nat.{ℕ, suc, _+_, _≤_, _<_, min}
@@ -21,7 +21,7 @@ pub entriesIn : (ℕ → ℕ) → History → ℕ
 entriesIn done [] = 0
 entriesIn done (e ∷ g) = bit (ltb (count (e .task) g) (done (e .task))) + entriesIn done g
 
--- every task has done all of its entries
+-- every task has done all its entries
 abbrev pub AllDone : (ℕ → ℕ) → History → Type 0
 AllDone done h = (t : ℕ) → count t h ≤ done t
 
@@ -46,7 +46,7 @@ entries-few d (e ∷ g) = elim (decLt (count (e .task) g) (d (e .task))) [
   | no o ↦ omega (arith, entries-out d e g o, entries-few d g)
 ]
 
--- with one access more of t the entries in grow by as many as t had left, and by one at most
+-- with one more access of t the number of entries that are in grows by one, or by none if t had none left
 entries-change : (d : ℕ → ℕ) (t : ℕ) (h : History) → entriesIn (oneMore t d) h + min (count t h) (d t) ≡ entriesIn d h + min (count t h) (suc (d t))
 unfolding entriesIn
 entries-change d t [] = omega (arith, count-none t)
@@ -77,7 +77,7 @@ entries-change d t (e ∷ g) =
 pub entries-more : (d : ℕ → ℕ) (t : ℕ) (h : History) → d t < count t h → entriesIn (oneMore t d) h ≡ suc (entriesIn d h)
 entries-more d t h l = omega (arith, entries-change d t h)
 
--- all entries are in exactly when every task has done all of its own
+-- all entries are in exactly when every task has done all its entries
 pub all-entries : (d : ℕ → ℕ) (h : History) → entriesIn d h ≡ length h → AllDone d h
 unfolding entriesIn
 all-entries d [] p t = omega (arith, count-none t)

@@ -1,5 +1,5 @@
--- Two runs of document 01 ("Runs on the bench") as histories. Run A: it is sound, so the theorem holds of it, and its
--- replay is computed. The run of four tasks: why row 5 also writes Last.
+-- Two runs of document 01 ("Runs on the bench") as histories. Run A: it is sound, so the theorem applies, and its replay is computed. The
+-- run of four tasks: why row 5 also writes Last.
 use mathlib.Core.Path.{_≡_, refl}
 use mathlib.Core.List.{List, [], _∷_}
 use mathlib.Core.Option.{some}
@@ -46,7 +46,7 @@ runA-order : recordedOrder runA ≡ 0 ∷ 1 ∷ 0 ∷ 1 ∷ []
 unfolding recordedOrder
 runA-order = refl
 
--- at first task 0 is ready and task 1 is not; after a step of task 0 it is the other way round
+-- at the start task 0 is ready and task 1 is not; after a step of task 0 it is the other way round
 runA-ready-first : (isReady runA (after zeros runA []) 0 ≡ true) × (isReady runA (after zeros runA []) 1 ≡ false)
 unfolding run next count
 runA-ready-first = (refl, refl)
@@ -55,7 +55,7 @@ runA-ready-second : (isReady runA (after zeros runA (0 ∷ [])) 0 ≡ false) × 
 unfolding run step next count oneMore
 runA-ready-second = (refl, refl)
 
--- task 0's read answers the 7 that memory holds; steps that are not ready change nothing; memory ends with 9
+-- task 0's read answers the 7 that memory holds; steps of tasks that are not ready change nothing; memory ends with 9
 runA-answer : answer runA (after zeros runA (0 ∷ 0 ∷ 1 ∷ [])) 0 ≡ some (record { number = 2; act = read 0 7 })
 unfolding run step answer next count oneMore
 runA-answer = refl
@@ -64,7 +64,7 @@ runA-memory : after zeros runA (0 ∷ 1 ∷ 0 ∷ 1 ∷ []) .memory 0 ≡ 9
 unfolding run step next count oneMore
 runA-memory = refl
 
--- run A is sound: the orderings of each entry bring in all entries before it
+-- run A is sound: with each entry, closed counts also have all entries before it
 second : {d : ℕ → ℕ} {f : Entry} {k : History} → Closed d (reads1 ∷ writes7 ∷ []) → In d reads1 (writes7 ∷ []) → At f k (writes7 ∷ []) → In d f k
 unfolding count
 second c i here = omega (arith, c .met here i)
@@ -97,18 +97,18 @@ runA-sound =
 runA-faithful : Faithful zeros runA
 runA-faithful = faithful runA-sound
 
--- THE RUN OF FOUR TASKS: task 1 reads cell 0, task 2 reads cell 0 (which makes share 1), task 1 reads cell 1, task 3
--- reads cell 1 (row 5), task 3 reads cell 0 (row 3, no ordering). What row 5 writes is left open.
+-- THE RUN OF FOUR TASKS: task 1 reads cell 0, task 2 reads cell 0 (which makes share 1), task 1 reads cell 1, task 3 reads cell 1 (row
+-- 5), task 3 reads cell 0 (row 3, no ordering). The orderings that row 5 writes are a parameter.
 abbrev fourTasks : List Position → History
 fourTasks row5 = entry 3 (read 0 0) [] ∷ entry 3 (read 1 0) row5 ∷ entry 1 (read 1 0) [] ∷ entry 2 (read 0 0) (ordering 1 1 ∷ []) ∷ entry 1 (read 0 0) [] ∷ []
 
--- With Last, closed counts that have task 3's second access in have task 2's in, which made share 1.
+-- With Last, closed counts that have task 3's second access also have task 2's, which made share 1.
 with-last : (d : ℕ → ℕ) → Closed d (fourTasks (ordering 1 2 ∷ ordering 2 1 ∷ [])) → 2 ≤ d 3 → 1 ≤ d 2
 unfolding count
 with-last d c two = omega (arith, c .met (there here) (omega arith))
 
--- Without it there are closed counts that have the one in and not the other: tasks 1 and 3 have done two accesses each,
--- task 2 none. So nothing orders task 3's read of cell 0 after share 1.
+-- Without it there are closed counts that have the first but not the second: tasks 1 and 3 have done two accesses each, task 2 none. So
+-- nothing orders task 3's read of cell 0 after share 1.
 abbrev skipping : ℕ → ℕ
 skipping zero = 0
 skipping (suc zero) = 2

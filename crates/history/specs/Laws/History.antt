@@ -29,12 +29,12 @@ count-rises t e g = elim (ℕ-discrete (e .task) t) [
 pub at-nil : {e : Entry} {g : History} → At e g [] → ⊥
 at-nil a = elim a [ ]
 
--- what stands before an entry of h stands in h
+-- an entry before an entry of h is an entry of h
 pub at-trans : {e f : Entry} {g k h : History} → At f k h → At e g k → At e g h
 at-trans here b = there b
 at-trans (there a) b = there (at-trans a b)
 
--- before an entry of t, fewer entries are t's than in the whole
+-- before an entry of t there are fewer entries of t than in the whole history
 pub at-lt : {e : Entry} {g h : History} (t : ℕ) → At e g h → e .task ≡ t → count t g < count t h
 at-lt {e} {g} t here p = omega (arith, count-own t e g p)
 at-lt t (there {f = f} {h = h} a) p = omega (arith, at-lt t a p, count-rises t f h)

@@ -43,7 +43,7 @@ module _ (start : ℕ → ℕ) where
   memory-start d z [] c = refl
   memory-start d z (e ∷ g) c = memory-out d e g c (λ i. omega (arith, z (e .task))) ∙ memory-start d z g c
 
-  -- where all writes of c are in, it is the reference start memory
+  -- if all writes of c are in, it is the reference memory
   pub memory-all : (d : ℕ → ℕ) (c : ℕ) (h : History) → ((e : Entry) (g : History) → At e g h → writes c (e .act) ≡ true → In d e g)
       → memoryOf start d h c ≡ reference start h c
   unfolding memoryOf
@@ -53,7 +53,7 @@ module _ (start : ℕ → ℕ) where
     | fails w ↦ memory-keep d e g c w ∙ memory-all d c g (λ e′ g′ a. all e′ g′ (there a)) ∙ sym (reference-keep e g c w)
   ]
 
-  -- counts that have the same writes of c in give it the same value
+  -- counts with the same writes of c in give c the same value
   pub memory-same : (d d′ : ℕ → ℕ) (c : ℕ) (h : History)
       → ((e : Entry) (g : History) → At e g h → writes c (e .act) ≡ true → (In d e g → In d′ e g) × (In d′ e g → In d e g))
       → memoryOf start d h c ≡ memoryOf start d′ h c
@@ -69,7 +69,7 @@ module _ (start : ℕ → ℕ) where
         ]
       ]
 
-  -- writes of c after e that are not in do not show
+  -- writes of c after e that are not in make no difference
   pub memory-skip : (d : ℕ → ℕ) (c : ℕ) {e : Entry} {g h : History} → At e g h
       → ((f : Entry) (k : History) → At f k h → At e g k → writes c (f .act) ≡ true → In d f k → ⊥)
       → memoryOf start d h c ≡ memoryOf start d (e ∷ g) c

@@ -1,5 +1,5 @@
--- Counts with one access more of a task (document 01, "Whole runs": a task has done as many accesses as steps naming it
--- were taken): no other task's count changes, and one entry at most comes in.
+-- Counts with one more access of a task (document 01, "Whole runs": a task has done as many accesses as steps naming it were taken): no
+-- other task's count changes, and at most one entry comes in.
 use mathlib.Core.Path.{_≡_, refl}
 use Prim.Native.Nat.{ℕ, suc, _≤_, _<_}
 use native.Mathlib.Omega.{arith}
@@ -24,7 +24,7 @@ oneMore-rises t d u = elim (ℕ-discrete u t) [
   | no p ↦ omega (arith, oneMore-other t d u p)
 ]
 
--- an entry that comes in with one access more of t is t's, and its number is the next
+-- an entry that comes in with one more access of t is t's, and it has the next number
 pub comes-in : (d : ℕ → ℕ) (t : ℕ) (f : Entry) (k : History) → In (oneMore t d) f k → (In d f k → ⊥) → (f .task ≡ t) × (count t k ≡ d t)
 comes-in d t f k now before = elim (ℕ-discrete (f .task) t) [
   | yes p ↦

@@ -1,5 +1,5 @@
--- The recorded order (document 01, "Whole runs"), the tasks of the entries oldest first, is taken whole: at each step the
--- counts are those of the box at that moment, so the next entry's task is ready.
+-- The recorded order (document 01, "Whole runs"), which is the tasks of the entries from the oldest on, is taken completely: at each step
+-- the counts are those of the box at that moment, so the next entry's task is ready.
 use mathlib.Core.Path.{_≡_, refl, sym, ap}
 use mathlib.Core.List.{List, [], _∷_, _++_}
 use mathlib.Core.Bool.{true}

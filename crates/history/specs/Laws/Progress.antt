@@ -1,6 +1,5 @@
--- A replay never sticks before the end (document 01, "Whole runs": the ready word). Where each ordering points back,
--- either every task has done all of its entries or some task is ready: of the oldest entry that is not in all before it is
--- in, so its orderings are met.
+-- A replay never gets stuck before the end (document 01, "Whole runs": the ready word). If every ordering points back, either every task
+-- has done all its entries or some task is ready: everything before the oldest entry that is not in is in, so its orderings are met.
 use mathlib.Core.Path.{refl}
 use mathlib.Core.List.{[], _∷_}
 use Prim.Native.Nat.{ℕ, _<_}

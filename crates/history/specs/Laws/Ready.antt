@@ -19,7 +19,7 @@ use Rattle.history.specs.Closed.{Met}
 use Rattle.history.specs.Replay.{next, allMet}
 use Rattle.history.specs.Ready.{Ready}
 
--- `next t n` is access number n + 1 of t, or none if t has no more than n
+-- `next t n` is access number n + 1 of t, or none if t has at most n
 pub next-access : (t n : ℕ) (h : History) (e : Entry) → next t n h ≡ some e → Access h t (suc n) e
 unfolding next
 next-access t n [] e p = absurd (Option·none-ne-some e p)

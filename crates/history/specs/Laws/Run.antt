@@ -1,5 +1,5 @@
--- Every list of steps (document 01, "Whole runs": the second list). What it keeps: the counts are closed, no task has done
--- more than it has, and the memory is that of the writes that are in. And what it adds up to: counts and tallies.
+-- Every list of steps (document 01, "Whole runs": the second list). What it preserves: the counts are closed, no task has done more
+-- accesses than it has, and the memory is that of the writes that are in. And what the counts are after it.
 use mathlib.Core.Path.{_≡_, refl, sym, _∙_}
 use mathlib.Core.List.{List, [], _∷_}
 use mathlib.Core.Bool.{_&&_}
@@ -54,7 +54,7 @@ kept-run {h} so (t ∷ steps) s k = kept-run so steps (step h s t) (kept-step so
 pub kept-after : {start : ℕ → ℕ} {h : History} → Sound start h → (steps : List ℕ) → Kept start h (run h (fresh start) steps)
 kept-after {start} {h} so steps = kept-run so steps (fresh start) (kept-fresh start h)
 
--- a task has done as many accesses as taken steps name it
+-- a task has done as many accesses as it has taken steps
 pub done-step : (u : ℕ) (h : History) (s : State) (t : ℕ) → step h s t .done u ≡ bit (takes h s t && eqb t u) + s .done u
 done-step u h s t = elim (step-goes h s t) [
   | refused r ↦ rw (r .stays, r .silent) (omega arith)
@@ -72,7 +72,7 @@ done-run u h (t ∷ steps) s = omega (arith, done-run u h steps (step h s t), do
 pub done-after : (u : ℕ) (start : ℕ → ℕ) (h : History) (steps : List ℕ) → run h (fresh start) steps .done u ≡ tallyOf u h (fresh start) steps
 done-after u start h steps = done-run u h steps (fresh start) ∙ omega arith
 
--- as many entries are in as steps were taken
+-- the number of entries that are in is the number of steps taken
 tally-step : (h : History) (s : State) (t : ℕ) → entriesIn (step h s t .done) h ≡ bit (takes h s t) + entriesIn (s .done) h
 tally-step h s t = elim (step-goes h s t) [
   | refused r ↦ rw (r .stays, r .silent) (omega arith)

@@ -18,12 +18,12 @@ sound-none start = record {
   reads-last = λ c v a p. absurd (at-nil a);
 }
 
--- The newest entry e follows those entries of h whose act passes a test: counts that are closed for the whole and have e
--- in have them in too.
+-- The newest entry e comes after those entries of h whose act passes a test: closed counts for the whole history that have e in have them
+-- in too.
 pub record Follows (e : Entry) (h : History) (test : Act → Bool) : Type 0 where
   pub has : {d : ℕ → ℕ} {f : Entry} {k : History} → Closed d (e ∷ h) → In d e h → At f k h → test (f .act) ≡ true → In d f k
 
--- a sound history with one more entry is sound, if (A), (B) and (C) hold of that entry
+-- a sound history with one more entry is sound if (A), (B) and (C) hold for that entry
 pub sound-more : {start : ℕ → ℕ} {e : Entry} {h : History} → Sound start h → Met (λ t. count t h) (e .orderings) → Follows e h (conflicts (e .act))
     → ((c v : ℕ) → e .act ≡ read c v → v ≡ reference start h c) → Sound start (e ∷ h)
 sound-more {start} {e} {h} s back after last = record { points-back = back′; comes-after = after′; reads-last = last′ }

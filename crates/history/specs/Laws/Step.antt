@@ -1,5 +1,5 @@
--- How a step goes (document 01, "Replay"): it is taken, and does its task's next access, or it is refused. What is above
--- cites `step-goes` and looks no further into the replay's functions.
+-- The two outcomes of a step (document 01, "Replay"): it is taken and does its task's next access, or it is refused. The files above use
+-- `step-goes` and do not look into the replay's functions.
 use mathlib.Core.Path.{_≡_, refl}
 use mathlib.Core.Logic.{_↔_}
 use mathlib.Core.Option.{Option, some, none}
@@ -55,7 +55,7 @@ step-goes h s t = go (next t (s .done t) h) refl
           })
         ]
 
--- the replay's test tells the ready tasks
+-- the replay's test is true exactly for the ready tasks
 pub ready-iff : (h : History) (s : State) (t : ℕ) → (isReady h s t ≡ true) ↔ Ready h (s .done) t
 ready-iff h s t = elim (step-goes h s t) [
   | taken e k ↦ (λ p. access-ready (s .done) (k .access) (k .met), λ r. k .ready)

@@ -1,4 +1,4 @@
--- A line's fields read one behind another into a row.
+-- A line's fields, read one after another into a row.
 use mathlib.Core.Path.{_≡_, refl, ap, _∙_, sym}
 use mathlib.Core.List.{List, [], _∷_, _++_, map}
 use Prim.Native.Nat.{ℕ, zero, suc, _+_, _-_, _<_, _≤_}
@@ -14,13 +14,13 @@ use Rattle.lines.specs.Words.{wordsIn, NextWord}
 abbrev pub fieldsIn : List ℕ → List ℕ
 fieldsIn line = map fieldOf (wordsIn line)
 
--- so many fields are read, and the row holds them; the others stand from a place on
+-- this many fields have been read into the row; the others follow from an index on
 pub record Reads (line row : List ℕ) (at count : ℕ) (now : List ℕ) : Type 0 where
   pub within : count ≤ length (fieldsIn line)
   pub held : now ≡ store row 0 (take count (fieldsIn line))
   pub left : drop count (fieldsIn line) ≡ fieldsIn (drop at line)
 
--- an element that stands at a place of a list
+-- the element at an index of a list
 cut : (n x : ℕ) (l r : List ℕ) → drop n l ≡ x ∷ r → (n < length l) × (take (n + 1) l ≡ take n l ++ (x ∷ [])) × (drop (n + 1) l ≡ r)
 cut zero x [] r h = let z : _≡_ {A = ℕ} 0 1 = cc in absurd (let y : ⊥ = omega arith in y)
 cut zero x (y ∷ l) r h = (omega arith, (cc), (cc))

@@ -1,4 +1,4 @@
--- What `bytes::scan::find` answers up to the end of a list.
+-- What `bytes::scan::find` answers for a search up to the end of a list.
 use mathlib.Core.Path.{_≡_}
 use mathlib.Core.Bool.{Bool, true, false}
 use mathlib.Core.List.{List, [], _∷_}

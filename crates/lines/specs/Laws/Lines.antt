@@ -14,7 +14,7 @@ use Rattle.codec.specs.Laws.Decide.{passes, fails, split}
 use Rattle.lines.specs.Words.{front}
 use Rattle.lines.specs.Lines.{linesOf, isPassed, numbered, linesFrom, lineBehind}
 
--- what is left behind the first line begins with its newline
+-- what is left after the first line begins with its newline
 behind : List ℕ → List (List ℕ)
 behind [] = []
 behind (b ∷ bs) = linesOf bs
@@ -46,13 +46,13 @@ first-line : (l : List ℕ) → 0 < length l → linesOf l ≡ take (indexOf 10 
 first-line [] h = absurd (let z : ⊥ = omega arith in z)
 first-line (b ∷ bs) h = line-first b bs
 
--- the next line, and the lines behind it
+-- the next line, and the lines after it
 pub next-bytes : (at : ℕ) (l : List ℕ) → at < length l
     → linesOf (drop at l) ≡ take (indexOf 10 (drop at l)) (drop at l) ∷ linesOf (drop (at + indexOf 10 (drop at l) + 1) l)
 next-bytes at l h =
     rw (← behind-from (at + indexOf 10 (drop at l)) l, ← drop-drop (indexOf 10 (drop at l)) at l) (first-line (drop at l) (rw length-drop (omega arith)))
 
--- the line at a place, with its end found
+-- the line at an offset, with its end found
 module _ (text : List ℕ) (at n end : ℕ) (h : at < length text) (e : end ≡ at + indexOf 10 (drop at text)) where
   line-bytes : linesOf (drop at text) ≡ take (end - at) (drop at text) ∷ linesOf (drop (end + 1) text)
   line-bytes =

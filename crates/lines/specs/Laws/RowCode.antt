@@ -23,14 +23,14 @@ row-take row xs h = store-front row xs (length xs) refl h
 pub row-at : (row xs : List ℕ) (i : ℕ) → length xs ≤ length row → i < length xs → getD (store row 0 xs) i 0 ≡ getD xs i 0
 row-at row xs i h k = rw (store-split row 0 xs (omega arith)) (List·getD-append xs (drop (0 + length xs) row) 0 i k)
 
--- each below a number
+-- every element below a number
 pub below-at : (n : ℕ) (l : List ℕ) → allBelow n l ≡ true → (i : ℕ) → i < length l → getD l i 0 < n
 unfolding allBelow
 below-at n [] e i h = absurd (let z : ⊥ = omega arith in z)
 below-at n (x ∷ l) e zero h = ltb-true x n (both-pass (ltb x n) (allBelow n l) e .0)
 below-at n (x ∷ l) e (suc i) h = below-at n l (both-pass (ltb x n) (allBelow n l) e .1) i (omega arith)
 
--- one element more of a list that is put into a row element by element
+-- one more element of a list that is put into a row element by element
 pub map-on : (f : ℕ → ℕ) (xs row : List ℕ) (i : ℕ) → i < length xs → i < length row → take i row ≡ map f (take i xs)
     → take (i + 1) (set row i (f (getD xs i 0))) ≡ map f (take (i + 1) xs)
 map-on f xs row i h k e = rw (add-one, take-suc-set row i (f (getD xs i 0)) k, take-suc xs i 0 h, e) (map-last (take i xs) (getD xs i 0))
@@ -39,7 +39,7 @@ map-on f xs row i h k e = rw (add-one, take-suc-set row i (f (getD xs i 0)) k, t
     map-last [] y = refl
     map-last (x ∷ ys) y = ap (λ (t : List ℕ). f x ∷ t) (map-last ys y)
 
--- a line's fields are so many, and each is judged where it stands in the row
+-- the line has this many fields, and each is checked at its place in the row
 pub row-judged : (row f now : List ℕ) (n count : ℕ) → n ≡ length f → now ≡ store row 0 f → n ≡ count → count ≤ length row
     → allBelow none (take n now) ≡ isRow count f
 unfolding isRow

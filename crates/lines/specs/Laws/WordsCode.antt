@@ -1,4 +1,4 @@
--- A line's words as the code finds them, run by run.
+-- A line's words as the code finds them.
 use mathlib.Core.Path.{_≡_, refl, ap, _∙_, sym}
 use mathlib.Core.Bool.{Bool, true, false, cond, not}
 use mathlib.Core.List.{List, [], _∷_}
@@ -12,11 +12,11 @@ use lib.Seq.{drop-cons, drop-drop, length-take-le}
 use Rattle.codec.specs.Laws.Decide.{passes, fails, split}
 use Rattle.lines.specs.Words.{isBlank, front, piecesOf, filledOf, wordsIn, NextWord}
 
--- a byte goes on with a run of blanks, or of other bytes
+-- a byte that continues a run of blanks, or of other bytes
 abbrev pub inRun : Bool → ℕ → Bool
 inRun blanks b = cond blanks (isBlank b) (not (isBlank b))
 
--- how long the run in front of a list is
+-- the length of the run at the front of a list
 unfoldable pub runOf : Bool → List ℕ → ℕ
 runOf blanks [] = 0
 runOf blanks (b ∷ bs) = cond (inRun blanks b) (suc (runOf blanks bs)) 0
@@ -29,7 +29,7 @@ run-within t (b ∷ l) = elim (split (inRun t b)) [
   | fails p ↦ rw p (omega arith)
 ]
 
--- one byte more, and the end, of a run that begins at a place
+-- one more byte of a run that begins at an index, and the run's end
 module _ (t : Bool) (at : ℕ) (l : List ℕ) where
   pub run-on : at < length l → inRun t (getD l at 0) ≡ true → at + runOf t (drop at l) ≡ at + 1 + runOf t (drop (at + 1) l)
   unfolding runOf
@@ -43,7 +43,7 @@ module _ (t : Bool) (at : ℕ) (l : List ℕ) where
   unfolding runOf
   run-none h = rw (drop-of-length-le l h) (omega arith)
 
--- blanks in front of words
+-- blanks before words
 skip : (l : List ℕ) → wordsIn l ≡ wordsIn (drop (runOf true l) l)
 unfolding runOf wordsIn piecesOf filledOf
 skip [] = refl
@@ -52,7 +52,7 @@ skip (b ∷ bs) = elim (split (isBlank b)) [
   | fails p ↦ rw (p, p)
 ]
 
--- the pieces behind the first, which a blank parts from it
+-- the pieces after the first, each after a blank
 behind : List ℕ → List (List ℕ)
 behind [] = []
 behind (b ∷ bs) = piecesOf bs
@@ -73,7 +73,7 @@ behind-words (b ∷ bs) = elim (split (isBlank b)) [
   | fails p ↦ rw p (behind-words bs)
 ]
 
--- a run of other bytes in front is a word
+-- a run of other bytes at the front is a word
 filled-cons : (w : List ℕ) (ws : List (List ℕ)) → 0 < length w → filledOf (w ∷ ws) ≡ w ∷ filledOf ws
 unfolding filledOf
 filled-cons [] ws h = absurd (let z : ⊥ = omega arith in z)
@@ -86,7 +86,7 @@ word l h =
     ∙ filled-cons (take (runOf false l) l) (behind (drop (runOf false l) l)) (omega (arith, length-take-le (runOf false l) l (run-within false l)))
     ∙ ap (λ (ws : List (List ℕ)). take (runOf false l) l ∷ ws) (behind-words l)
 
--- where no run of other bytes follows the blanks, the line ends
+-- if no other bytes follow the blanks, the line ends there
 ended : (l : List ℕ) → runOf false (drop (runOf true l) l) ≡ 0 → drop (runOf true l) l ≡ []
 unfolding runOf
 ended [] h = refl

@@ -1,4 +1,4 @@
--- How a body is copied out, over plain variables.
+-- Laws for the code that copies a body.
 use mathlib.Core.Path.{_≡_, refl}
 use mathlib.Core.List.{List, [], _∷_}
 use Prim.Native.Nat.{ℕ, _<_, _≤_}
@@ -27,7 +27,7 @@ accepted (read p) task q e = elim (split (ltb task (p .recording .tasks))) [
   | fails t ↦ absurd (let z : 5 ≡ 0 = rw t at e in omega arith)
 ]
 
--- a part that has bytes is no refusal's
+-- a part that has bytes does not come from a refusal
 taken : (r : Reading Parsed) (task : ℕ) (b : List ℕ) → (length (bodyPart r task b) ≡ 0 → ⊥) → bodyChecked r task ≡ stop 0 0
 unfolding bodyChecked bodySpan part
 taken (refused c) task b h = absurd (h refl)

@@ -13,7 +13,7 @@ use borrow.Author.Needs.{needs}
 use Rattle.opening.proofs.open_number.Statement.{statement}
 use Rattle.opening.proofs.open_number.Tie as tie
 
--- the tests that were passed, one behind another
+-- the tests passed so far
 tasks-fit : (c : tie.Else1) → isWithin 1 maxTasks (c .before .before .before .args .tasks) ≡ true
 tasks-fit c = sym (c .before .within .ensures) ∙ not-false _ (c .if1 .left)
 

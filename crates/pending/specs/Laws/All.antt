@@ -7,7 +7,7 @@ use native.Mathlib.Omega.{arith}
 use Rattle.codec.specs.Laws.Decide.{both-pass}
 use Rattle.pending.specs.All.{allFrom}
 
--- one turn of the loop from i up to n
+-- one pass of the loop from i up to n
 pub all-on : (f : ℕ → Bool) (i n : ℕ) → i < n → f i ≡ true → allFrom f i (n - i) ≡ allFrom f (i + 1) (n - (i + 1))
 unfolding allFrom
 all-on f i n h p =
@@ -23,7 +23,7 @@ pub all-end : (f : ℕ → Bool) (i n : ℕ) → n ≤ i → allFrom f i (n - i)
 unfolding allFrom
 all-end f i n h = let e : n - i ≡ 0 = omega arith in rw e
 
--- the test as a fact of each number, and back
+-- the test as a fact about each number, and the other way round
 all-at : (f : ℕ → Bool) (i n : ℕ) → allFrom f i n ≡ true → (k : ℕ) → k < n → f (i + k) ≡ true
 unfolding allFrom
 all-at f i zero p k h = absurd (omega arith)
@@ -37,7 +37,7 @@ all-from f i (suc n) g =
     let p : f i ≡ true = rw add-zero at (g 0 (omega arith)) in
     rw p (all-from f (suc i) n (λ k h. let e : suc i + k ≡ i + suc k = omega arith in rw e (g (suc k) (omega arith))))
 
--- tests that agree
+-- tests that agree everywhere
 all-alike : (f g : ℕ → Bool) (i n : ℕ) → ((k : ℕ) → k < n → f (i + k) ≡ g (i + k)) → allFrom f i n ≡ allFrom g i n
 unfolding allFrom
 all-alike f g i zero h = refl

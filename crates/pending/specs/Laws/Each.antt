@@ -23,12 +23,12 @@ each-at f (suc n) k d h = elim (ℕ-discrete k n) [
   | no e ↦ List·getD-append (each f n) (f n ∷ []) d k (omega (arith, each-length f n, e)) ∙ each-at f n k d (omega (arith, e))
 ]
 
--- a list of n entries is this list of them
+-- a list of n entries that agrees with f is this list
 pub each-of : {A : Type 0} (f : ℕ → A) (n : ℕ) (l : List A) (d : A) → length l ≡ n → ((k : ℕ) → k < n → f k ≡ getD l k d) → each f n ≡ l
 each-of f n l d h g =
     ext-getD d (each f n) l (each-length f n ∙ sym h) (λ k b. let b : k < n = omega (arith, each-length f n) in each-at f n k d b ∙ g k b)
 
--- a list of n entries that is filled up to i
+-- a list of n entries that is filled up to index i
 pub record Filled {A : Type 0} (f : ℕ → A) (n : ℕ) (l : List A) (i : ℕ) : Type 0 where
   pub within : i ≤ n
   pub long : length l ≡ n

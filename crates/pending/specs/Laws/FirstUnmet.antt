@@ -56,7 +56,7 @@ ahead-later m b dones later from end place at g w = record {
   passed = λ runs d. w .passed runs (λ s h. omega (arith, g s h, d s h));
 }
 
--- an access that was found is what is open, where anything is
+-- if anything is ready to be done, it is the access that was found
 found-open : (runs : List TaskRun) (from : ℕ) (x : Reading Entry) (o : Op) (a n : ℕ) → found from x ≡ FoundAccess o a n → isOpen (judged runs from x) ≡ true
     → Open o n ≡ judged runs from x
 unfolding found judged
@@ -66,7 +66,7 @@ found-open runs from (read e) o a n h k = elim (split (allMet runs (e .orderings
   | fails p ↦ absurd (let y = rw p at k in let z : _≡_ {A = ℕ} 0 1 = cc in omega arith)
 ]
 
--- a met ordering in front changes nothing, one that is not met holds the group
+-- a met ordering in front makes no difference, an unmet one holds up the group
 module _ (runs : List TaskRun) (place : ℕ) (p : Position) (e : Entry) where
   judged-met : p .number ≤ doneOf runs (p .task) → judged runs (place + 8) (read e) ≡ judged runs place (read (record { orderings = p ∷ e .orderings; op = e .op }))
   unfolding judged allMet
@@ -87,7 +87,7 @@ module _ (runs : List TaskRun) (place : ℕ) (p : Position) (e : Entry) where
   unfolding unmetIn unmetOf
   unmet-here h = rw (lt-leb (p .number) (doneOf runs (p .task)) h)
 
--- an ordering stands at a place: met, the rest is still ahead, and not met it holds the task
+-- an ordering is at an offset: if it is met the scan goes on, if not it holds up the task
 pub record Passing (m : Limits) (b dones : List ℕ) (from end place at : ℕ) (p : Position) : Type 0 where
   pub room : place + 8 ≤ length b
   pub below : p .task < maxTasks
@@ -127,7 +127,7 @@ module _ (m : Limits) (b dones : List ℕ) (from end place at : ℕ) (w : Ahead 
             ∙ (rw q at (w .passed runs (done-all dones runs e)));
       }
 
-  -- the access is further on: an ordering stands here
+  -- the access comes later: there is an ordering here
   pub ahead-turn : place < at → Passing m b dones from end place at (orderingAt b place)
   ahead-turn h = elim ahead-case [
     | last x ↦ absurd (omega (arith, w .stands, ap length (x .none)))

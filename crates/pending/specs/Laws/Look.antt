@@ -11,7 +11,7 @@ use Rattle.pending.specs.Next.{entryNext, nextOf}
 use Rattle.pending.specs.Run.{taskAt, limitsOf}
 use Rattle.pending.specs.Look.{groupAt, Looks}
 
--- what the code has of a run where it looks at a task: the task's record, T, N and the counts done
+-- what the code knows of a run where it looks at a task: the task's record, T, N and the accesses done
 pub record OneTask (r : Run) (t : ℕ) (x : TaskRun) (m : Limits) (dones : List ℕ) : Type 0 where
   pub task : x ≡ taskAt (r .runs) t
   pub limits : m ≡ limitsOf r t

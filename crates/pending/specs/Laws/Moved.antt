@@ -1,4 +1,4 @@
--- What a run keeps and what an accepted step moves: one task's place and done, and nothing else.
+-- What an accepted step changes in a run: one task's place and number of accesses done, and nothing else.
 use mathlib.Core.Path.{_≡_, refl, _∙_}
 use Prim.Native.Nat.{ℕ, _≤_, _<_}
 use native.Mathlib.Omega.{arith}
@@ -10,7 +10,7 @@ use Rattle.pending.specs.declared.Run.{Run}
 use Rattle.pending.specs.Run.{blankTask, taskAt, advanced, movedOf}
 use Rattle.pending.specs.Laws.Sound.{Sound}
 
--- the list's length, which the run's type fixes
+-- the list's length, which is fixed by the run's type
 abbrev pub Shaped : Run → Type 0
 Shaped r = length (r .runs) ≡ maxTasks
 
@@ -35,7 +35,7 @@ module _ (r : Run) (t next : ℕ) where
   unfolding movedOf
   moved-objects = refl
 
-  -- a sound run stays sound where the task had an access left and its next place is within its body
+  -- a sound run stays sound if the task had an access left and its next place is within its body
   pub moved-sound : (size : ℕ) → Shaped r → Sound r size → t < r .tasks → taskAt (r .runs) t .done < taskAt (r .runs) t .count → next ≤ taskAt (r .runs) t .end
       → Sound (movedOf r t next) size
   moved-sound size h s b l k = record {

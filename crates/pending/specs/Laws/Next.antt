@@ -1,4 +1,4 @@
--- What an access that may be done tells: it was read from the task's place, its object is below N, it ends within the body.
+-- Facts about an access that may be done: it was read from the task's place, its object is below N, and it ends within the body.
 use mathlib.Core.Path.{_≡_, refl}
 use mathlib.Core.Bool.{Bool, true, false, cond}
 use mathlib.Core.List.{List}
@@ -34,7 +34,7 @@ abbrev pub refusalOf : Found → Checked
 refusalOf (FoundAccess o a n) = stop 0 0
 refusalOf (FoundRefused c) = c
 
--- the entry that an open access is
+-- the entry of an access that may be done
 pub record OpenEntry (runs : List TaskRun) (at : ℕ) (x : Reading Entry) (o : Op) (n : ℕ) : Type 0 where
   pub entry : Entry
   pub reads : x ≡ read entry
@@ -94,7 +94,7 @@ module _ (r : Run) (b : List ℕ) (t : ℕ) where
   next-positive c h = judged-refused (r .runs) (taskAt (r .runs) t .place) (entryNext r b t) c
       (entry-positive (limitsOf r t) (stop inBody (taskAt (r .runs) t .place)) (taskAt (r .runs) t .place) (part (taskAt (r .runs) t .place) (taskAt (r .runs) t .end) b) (omega arith)) h
 
--- an entry that is read is open exactly if its orderings are met
+-- an entry that was read may be done exactly if its orderings are met
 pub open-met : (runs : List TaskRun) (at : ℕ) (x : Reading Entry) (e : Entry) → x ≡ read e → isOpen (judged runs at x) ≡ allMet runs (e .orderings)
 unfolding judged
 open-met runs at x e p = rw p (cases (allMet runs (e .orderings)))

@@ -13,7 +13,7 @@ use Rattle.pending.specs.Laws.All.{all-facts, all-test}
 use Rattle.pending.specs.Run.{taskAt}
 use Rattle.pending.specs.Sound.{taskSound, taskSoundAt, soundOf}
 
--- soundness as facts
+-- soundness as separate facts
 pub record SoundTask (size : ℕ) (x : TaskRun) : Type 0 where
   pub done : x .done ≤ x .count
   pub place : x .place ≤ x .end

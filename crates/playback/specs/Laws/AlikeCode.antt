@@ -1,4 +1,4 @@
--- The comparison as the code does it, over plain variables: what the two plays and the tests came to.
+-- The comparison as the code does it, from the results of the two plays and the tests.
 use mathlib.Core.Path.{_≡_, sym, _∙_}
 use mathlib.Core.Bool.{Bool}
 use mathlib.Core.List.{List}
@@ -17,7 +17,7 @@ use Rattle.playback.specs.Shown.{shownPlay}
 use Rattle.playback.specs.ToEnd.{playOf}
 use Rattle.playback.specs.Laws.ToEndCode.{away, found, located}
 
--- what the two plays and the two tests on them came to
+-- the results of the two plays and the two tests on them
 pub compares : (x y : Play) (p q : Played) (m n : List ℕ) (s a : Bool) → p ≡ shownPlay x → q ≡ shownPlay y → m ≡ x .memory → n ≡ y .memory → s ≡ sameEntries m n → a ≡ alikeOf p q s → a ≡ comparing x y .answer .alike
 compares x y p q m n s a e f g h i j = rw (j, i, e, f, g, h)
 
@@ -25,7 +25,7 @@ pub both-ended : (x y : Play) (m n : List ℕ) (a : Bool) → a ≡ comparing x 
     → record { answer = record { number = 0; offset = 0; alike = a }; first = m; second = n } ≡ comparing x y
 both-ended x y m n a e g h = rw (e, g, h)
 
--- the comparison by the tests in their order
+-- the comparison by the tests in order
 module _ (b c m n : List ℕ) (l : Layout) (e : l ≡ layoutOf (parse b)) where
   pub first-away : (l .number ≡ 0 → ⊥) → refusing (l .number) (l .offset) m n ≡ sameOutcomeOf b c m n
   unfolding sameOutcomeOf compared

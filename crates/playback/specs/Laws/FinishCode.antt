@@ -1,4 +1,4 @@
--- One turn of the play to the end, over plain variables: the lowest ready task's access done on the memory, and the run behind it.
+-- One pass of the play to the end: the lowest ready task's access is done on the memory, and the run after it.
 use mathlib.Core.Path.{_≡_, refl, sym, ap, _∙_}
 use mathlib.Core.Bool.{Bool}
 use mathlib.Core.List.{List}
@@ -15,7 +15,7 @@ use Rattle.replayer.specs.ReadyOf.{readyOf}
 use Rattle.pending.specs.Run.{movedOf}
 use Rattle.replayer.specs.StepOf.{onNext}
 
--- a play on its way: each step takes one access away, and it comes to the same end
+-- a play under way: each step leaves one access fewer, and the end it will reach is the same
 pub record Going (b : List ℕ) (start x : Play) : Type 0 where
   pub playing : Playing b x
   pub steps : x .steps + leftOver (x .run) ≡ leftOver (start .run)
@@ -33,7 +33,7 @@ module _ (b : List ℕ) (start x : Play) (g : Going b start x) where
       let s : onward b x ≡ record { run = r; memory = m; steps = x .steps + 1 } = rw (n .first, step-open b x (g .playing) t op next n, q, e) in
       rw (← s) (record { playing = o .playing; steps = omega (arith, o .fewer, g .steps); same = sym (finish-on b x (g .playing) (n .goes)) ∙ g .same })
 
-  -- where no task is ready: what is answered
+  -- no task is ready: the answer
   pub going-end : readyOf (x .run) b .word ≡ 0 → (f : Bool) → f ≡ finishedOf (x .run)
       → (record { tasks = x .run .tasks; objects = x .run .objects; steps = x .steps; finished = f } ≡ shownPlay (finishOf b start)) × (x .memory ≡ finishOf b start .memory)
   going-end z f e =

@@ -1,4 +1,4 @@
--- Every text that `record` makes a recording of: `replay` shows each of its accesses, and the memory that it leaves.
+-- For every text that `record` makes a recording of, `replay` shows each of its accesses and the memory it leaves.
 use mathlib.Core.Bool.{true, _&&_}
 use mathlib.Core.List.{List, [], _∷_, _++_}
 use mathlib.Core.Path.{_≡_, refl, sym, ap, subst, _∙_, fun-ext}
@@ -51,7 +51,7 @@ unfolding playedBy steppedAll
 play-bench b x [] = refl
 play-bench b x (t ∷ steps) = play-bench b _ steps
 
--- steps that are taken are counted, each for its task
+-- every taken step is counted for its task
 taken-tally : (b : List ℕ) (x : Play) (steps : List ℕ) → AllTakenBy b x steps → tally b (record { run = x .run; memory = x .memory }) steps ≡ length steps
 unfolding AllTakenBy tally
 taken-tally b x [] w = refl
@@ -80,7 +80,7 @@ unfolding AllTakenBy AllTaken
 bench-taken b x [] w = tt
 bench-taken b x (t ∷ steps) w = (eq-eqb _ _ (w .0), bench-taken b _ steps (w .1))
 
--- the lines of steps that are taken, behind any steps
+-- the lines of taken steps, after any other steps
 module _ (o : Opening) (asked : List Asked) (outs : ℕ → List ℕ) (lent : List ℕ) (f : Faithful o asked outs lent) where
   abbrev bytes : List ℕ
   bytes = recordingOf o asked outs
@@ -97,7 +97,7 @@ module _ (o : Opening) (asked : List Asked) (outs : ℕ → List ℕ) (lent : Li
       rw (line-shows t (suc (done o asked outs lent before t)) (stepOf (x .run) bytes (x .memory) t .answer) (e .act) number shows)
       (more access (rw (a, done-more bytes (benchOf bytes lent) before t (w .0)) at rest))
 
--- a recording that the replay opens, played lowest ready task first
+-- a recording that the replay opens, played with always the lowest ready task
 module _ (o : Opening) (asked : List Asked) (outs : ℕ → List ℕ) (lent : List ℕ) (a : Accepted o asked outs lent) (each : length lent ≡ o .objects)
     (p : Parsed) (e : parse (recordingOf o asked outs) ≡ reads p) (same : p .recording ≡ recordingBy o asked) where
   abbrev b : List ℕ

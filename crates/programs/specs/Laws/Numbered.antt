@@ -1,4 +1,4 @@
--- Lines are numbered from 1, so a line that stopped a text is told from none.
+-- Lines are numbered from 1, so 0 can mean that no line stopped the text.
 use mathlib.Core.List.{List, [], _∷_}
 use Prim.Native.Nat.{ℕ, _+_, _≤_}
 use native.Mathlib.Omega.{arith}

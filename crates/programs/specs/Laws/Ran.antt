@@ -1,4 +1,4 @@
--- A text's session is that of a list of calls from its opening, each of them accepted, with the bytes in its logs counted.
+-- A text's session is the result of a list of calls from its opening, all of them accepted, with the bytes in its logs counted.
 use mathlib.Core.Path.{_≡_, refl, ap, _∙_, sym}
 use mathlib.Core.Bool.{Bool, true, cond, _&&_}
 use mathlib.Core.List.{List, [], _∷_, _++_, map, map-append, append-assoc, append-nil}
@@ -25,7 +25,7 @@ use Rattle.lines.specs.Lines.{Line}
 use Rattle.logs.specs.Laws.Room.{access-same}
 use Rattle.logs.specs.Session.{Session, most, callOf, stoppedAt, asking, judged, fed, fedAll}
 
--- the bytes in the logs of the tasks below k
+-- the number of bytes in the logs of the tasks below k
 unfoldable pub sumLogs : (ℕ → List ℕ) → ℕ → ℕ
 sumLogs logs zero = 0
 sumLogs logs (suc k) = sumLogs logs k + length (logs k)
@@ -49,20 +49,20 @@ module _ (logs : ℕ → List ℕ) (bytes : List ℕ) (task : ℕ) where
     | fails p ↦ rw (p, sum-more k (omega (arith, eqb-false task k p))) (omega arith)
   ]
 
--- one call more
+-- one more call
 last-more : (b : Box) (asked : List Asked) (x : Asked) → calledAll b (callsOf (asked ++ (x ∷ []))) ≡ leftBy (calledAll b (callsOf asked)) (x .call)
 unfolding calledAll
 last-more b [] x = refl
 last-more b (a ∷ asked) x = last-more (leftBy b (a .call)) asked x
 
--- one access more is recorded, if it is accepted
+-- one more access is recorded if it is accepted
 count-more : (h : History) (b : Box) (asked : List Asked) (c : AccessCall) (v : c .value < 4294967296) → accepts (calledAll b (callsOf asked)) c ≡ true
     → length (recordedFrom h b (callsOf (asked ++ (record { call = Call.access c; fits = v } ∷ [])))) ≡ length (recordedFrom h b (callsOf asked)) + 1
 unfolding calledAll recordedFrom
 count-more h b [] c v p = rw p (sym (add-one (length h)))
 count-more h b (a ∷ asked) c v p = count-more (addedBy b (a .call) .entries ++ h) (leftBy b (a .call)) asked c v p
 
--- an access writes as many bytes as it says
+-- an access writes as many bytes as its answer says
 written-length : (s : State) (task object sort value : ℕ) (memory out : List ℕ)
     → length (take (accessOf s task object sort value memory out .answer .written) (accessOf s task object sort value memory out .out)) ≡ accessOf s task object sort value memory out .answer .written
 unfolding accessOf accepted refused
@@ -93,8 +93,8 @@ asked-fits f g = elim (split (eqb (length f) 3)) [
 ]
 
 module _ (o : Opening) (z : openedBy o .answer .number ≡ 0) (base : ℕ) where
-  -- a session that lines led to from the opening: a call for each of them, in their order, one access recorded for each, and what is in
-  -- the logs counted
+  -- a session that these lines led to from the opening: one call for each of them, in order, one access recorded for each, and the bytes
+  -- in the logs counted
   pub record Ran (ls : List Line) (s : Session) : Type 0 where
     pub asked : List Asked
     pub box : s .box ≡ lastBox o asked

@@ -1,4 +1,4 @@
--- Where the program `record` tells nothing on standard error, what it writes to standard output is a whole run's recording.
+-- If the program `record` reports nothing on standard error, what it writes to standard output is the recording of a whole run.
 use mathlib.Core.Path.{_≡_}
 use mathlib.Core.List.{List, []}
 use Prim.Native.Nat.{ℕ, _≤_}

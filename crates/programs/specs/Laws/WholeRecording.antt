@@ -1,4 +1,4 @@
--- The recording of a text that nothing stopped is that of a whole run: no section is turned away.
+-- The recording of a text that nothing stopped is that of a whole run: no section is refused.
 use mathlib.Core.Path.{_≡_, refl, ap, _∙_, sym}
 use mathlib.Core.List.{List, [], _++_}
 use Prim.Native.Nat.{ℕ, zero, suc, _+_, _*_, _-_, _≤_}
@@ -61,7 +61,7 @@ module _ (o : Opening) (z : openedBy o .answer .number ≡ 0) (asked : List Aske
       let g = packed-all (suc t) k (at + (12 + length (b .logs t))) (omega arith) (omega (arith, e, sum-suc (b .logs) t)) in
       rw (x .1, y .1, x .0, add-one t, g)
 
-  -- as many bytes as the logs have, and a section record for each
+  -- the bytes of the logs, and a section record for each
   packed-size : (t k : ℕ) → t + k ≡ o .tasks → length (packedWhole (lastBox o asked .state) (lastBox o asked .logs) (outsOf (lastBox o asked)) t k) + sumLogs (lastBox o asked .logs) t
       ≡ 12 * k + sumLogs (lastBox o asked .logs) (o .tasks)
   unfolding packedWhole
@@ -76,7 +76,7 @@ box-none : (b : Box) → b ≡ calledAll b []
 unfolding calledAll
 box-none b = refl
 
--- an opening writes as many bytes as it says
+-- an opening writes as many bytes as its answer says
 head-size : (tasks objects : ℕ) (owners starts memory out : List ℕ) → openOf tasks objects owners starts memory out .answer .number ≡ 0
     → length (take (openOf tasks objects owners starts memory out .answer .written) (openOf tasks objects owners starts memory out .out)) ≡ openOf tasks objects owners starts memory out .answer .written
 unfolding openOf opened

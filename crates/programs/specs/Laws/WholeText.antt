@@ -1,5 +1,5 @@
--- Every text whose answer is a recording: the recording is that of a whole run, to which demand 3 applies. As many accesses are
--- recorded as lines ask for, and the run leaves the memory that the text's accesses leave.
+-- For every text whose answer is a recording, the recording is that of a whole run, so demand 3 applies to it. One access is recorded for
+-- each line that asks for one, and the run leaves the memory that the text's accesses leave.
 use mathlib.Core.Path.{_≡_}
 use mathlib.Core.List.{List, [], _∷_}
 use Prim.Native.Nat.{ℕ, _+_, _≤_}
@@ -21,7 +21,7 @@ use Rattle.programs.specs.Laws.Numbered.{Numbered, numbered-from}
 use Rattle.programs.specs.WholeRecording.{WholeRecording}
 use Rattle.programs.specs.Laws.WholeRecording.{whole-recording}
 
--- an outcome that no line stopped is a whole run's, with the accesses of these lines
+-- an outcome that no line stopped is a whole run with the accesses of these lines
 abbrev Whole : Outcome → List Line → Type 0
 Whole o lines = o .line ≡ 0 → WholeRecording (o .bytes) (o .memory) lines
 

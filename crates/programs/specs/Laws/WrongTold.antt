@@ -1,4 +1,4 @@
--- A message of what was expected is about a line that is missing, or that something is wrong with.
+-- A message about what was expected is about a line that is missing or wrong.
 use mathlib.Core.Path.{_≡_, refl, _∙_, sym}
 use mathlib.Core.Bool.{true, false, true≢false}
 use mathlib.Core.List.{List, [], _∷_}
@@ -29,7 +29,7 @@ use Rattle.script.specs.RecordOf.{begun, finished, withOpening, opening, withOw
 use Rattle.logs.specs.Session.{Session, callOf, stoppedAt, asking, judged, fed, fedAll}
 use Rattle.programs.specs.Wrong.{Wrong}
 
--- the lines have rising numbers, from lo on and below hi
+-- the lines have increasing numbers, at least lo and below hi
 Between : ℕ → ℕ → List Line → Type 0
 Between lo hi [] = Unit {0}
 Between lo hi (l ∷ ls) = (lo ≤ l .number) × (l .number < hi) × Between (l .number + 1) hi ls
@@ -47,7 +47,7 @@ numbered-between n hi (l ∷ ls) h = elim (split (isPassed l)) [
   | fails p ↦ rw p (omega arith, omega arith, numbered-between (n + 1) hi ls (omega arith))
 ]
 
--- where a line with number 0 stopped the text, it stands from lo on, and something is wrong with it as these lines are read
+-- if a line stopped the text with number 0, its number is at least lo, and it is wrong as these lines are read
 abbrev Told : ℕ → ℕ → Kind → List Line → ℕ → ℕ → Type 0
 Told n lo k ls line number = (line ≡ 0 → ⊥) → number ≡ 0 → (lo ≤ line) × Wrong n (readingIn line k ls)
 

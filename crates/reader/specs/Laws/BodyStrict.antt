@@ -1,4 +1,4 @@
--- Strictness of a body: bytes read as accesses only if they are those accesses' bytes, and their numbers are then in range.
+-- Strictness of a body: bytes read as accesses are exactly those accesses' bytes, and their numbers are in range.
 use mathlib.Core.Path.{_≡_, refl, ap, _∙_}
 use mathlib.Core.Bool.{true, not}
 use mathlib.Core.List.{List, [], _∷_, _++_, append-assoc}

@@ -1,5 +1,5 @@
--- Bodies that read, each behind a section record that names its accesses and bytes, and all behind a head, read as the recording
--- of those accesses: what the section writer's pieces make when they are joined.
+-- Bodies that read, each after a section record that gives its accesses and bytes, and all after a head, read as the recording of those
+-- accesses: this is what the pieces written by the section writer form when they are joined.
 use mathlib.Core.Path.{_≡_, refl}
 use mathlib.Core.List.{List, [], _∷_, _++_}
 use Prim.Native.Nat.{ℕ, suc, _+_, _<_}

@@ -1,5 +1,5 @@
--- What the walk's answer and the head's entries tell whoever stands above the reader: the layout by what the bytes mean,
--- and the starting values as they stand in the head.
+-- What the layout and the head's entries say, for the crates above: the layout by the meaning of the bytes, and the starting values as
+-- stored in the head.
 use mathlib.Core.Path.{_≡_, refl, ap}
 use mathlib.Core.Bool.{_&&_}
 use mathlib.Core.List.{List, [], _∷_}
@@ -25,7 +25,7 @@ use Rattle.reader.specs.Calls.{noSpan}
 use Rattle.reader.specs.Laws.Standing.{Standing, parse-stands}
 use Rattle.reader.specs.Layout.{blankSpans, refusedLayout, layoutOf}
 
--- the layout of bytes that are read
+-- the layout of bytes that were read
 pub record Laid (p : Parsed) (l : Layout) : Type 0 where
   pub number : l .number ≡ 0
   pub tasks : l .tasks ≡ p .recording .tasks
@@ -45,12 +45,12 @@ laid-read b p e =
       span = λ t h. rw (sets-eq (p .spans) blankSpans 0 (omega arith), List·getD-append (p .spans) (drop (0 + length (p .spans)) blankSpans) noSpan t (omega arith));
     })
 
--- the layout of bytes that are refused
+-- the layout of bytes that were refused
 pub laid-refused : (c : Checked) → (layoutOf (refused c) .number ≡ c .number) × (layoutOf (refused c) .offset ≡ c .offset)
 unfolding layoutOf refusedLayout
 laid-refused c = (refl, refl)
 
--- the starting values: four bytes each, behind the owner's
+-- the starting values: four bytes each, after the owner
 field2-drop : (n i : ℕ) (b : List ℕ) → field2 (drop n b) i ≡ field2 b (n + i)
 unfolding field2
 field2-drop n i b = let e : n + (i + 1) ≡ n + i + 1 = omega arith in rw (getD-drop n b i 0, getD-drop n b (i + 1) 0, e)
@@ -72,7 +72,7 @@ unfolding valuesOf
 values-count zero b = refl
 values-count (suc n) b = ap suc (values-count n (drop headStep b))
 
--- the values of bytes that are read are those of the head, which is all there
+-- the values of bytes that were read are those in the head, which is complete
 pub record Valued (b : List ℕ) (p : Parsed) : Type 0 where
   pub values : p .recording .values ≡ valuesOf (length (p .recording .owners)) (drop (lengthOf headKind) b)
   pub within : headLength (length (p .recording .owners)) ≤ length b

@@ -1,4 +1,4 @@
--- A list gone through one by one: each judged, each copied.
+-- A list processed one entry at a time: each compared, each copied.
 use mathlib.Core.Path.{_≡_, _∙_, sym}
 use mathlib.Core.Bool.{true, false}
 use mathlib.Core.List.{List}
@@ -10,7 +10,7 @@ use lib.ListN.{length, getD, take, drop, set, drop-of-length-le}
 use lib.Seq.{drop-cons, take-suc, take-suc-set, take-all}
 use Rattle.reader.specs.Parse.{allBelow}
 
--- each below a number
+-- each entry below a number
 module _ (t i : ℕ) (l : List ℕ) where
   pub below-on : i < length l → getD l i 0 < t → allBelow t (drop i l) ≡ allBelow t (drop (i + 1) l)
   unfolding allBelow

@@ -1,4 +1,4 @@
--- Read-back: what a recording's bytes mean is that recording.
+-- Read-back: the meaning of a recording's bytes is that recording.
 use mathlib.Core.Path.{_≡_, refl, ap, ap₂, _∙_, sym}
 use mathlib.Core.Bool.{true}
 use mathlib.Core.List.{List, [], _∷_, _++_, append-assoc, map}
@@ -34,7 +34,7 @@ use Rattle.entries.specs.Laws.Body.{body-end, body-step}
 use Rattle.reader.specs.Section.{TaskBody, spanOf, bodyStart, taken, sectionBody, onSection, sectionAt, sectionsOf}
 use Rattle.reader.specs.Parse.{ownersOf, valuesOf, allBelow, sizesOk, onHead, headAt, sectionsAfter, parse}
 
--- T and N leave room in their fields
+-- T and N fit their fields
 pub record Small (m : Limits) : Type 0 where
   pub tasks : m .tasks ≤ maxTasks
   pub objects : m .objects ≤ maxObjects
@@ -51,7 +51,7 @@ op-fits : (m : Limits) (o : Op) → Small m → OpIn m o → FitsOp o
 op-fits m o s i = record { access = i .access; object = omega (arith, s .objects, i .below); value = i .fits; none = i .none }
 
 module _ (m : Limits) (s : Small m) where
-  -- an access with its orderings, whatever follows
+  -- an access with its orderings, followed by anything
   orderings-back : (ended : Checked) (at : ℕ) (ps : List Position) (o : Op) (r : List ℕ) → OrderingsIn m ps → OpIn m o
       → entryAt m ended at (orderingsBytes ps ++ (access o ++ r)) ≡ read (record { orderings = ps; op = o })
   unfolding orderingsBytes onRecord accessOf
@@ -75,7 +75,7 @@ module _ (m : Limits) (s : Small m) where
       body-step m at (entryBytes e ++ bodyBytes es) (omega (arith, length-append (entryBytes e) (bodyBytes es), entry-some e))
       ∙ rw (entry-back (stop inBody at) at e (bodyBytes es) (i .0), drop-at (entryBytes e) (bodyBytes es) (entryLength e) (entry-length e (i .0 .op .access)), body-back (at + entryLength e) es (i .1))
 
--- where the bodies of the sections stand, the first section at a place
+-- where the sections' bodies are, if the first section is at this offset
 unfoldable pub placed : ℕ → List (List Entry) → List TaskBody
 placed at [] = []
 placed at (es ∷ bodies) =

@@ -1,5 +1,5 @@
--- What is left of a task's body, as the accesses that its bytes read as: all of them at the start, one less after each step of that
--- task, and unchanged by a step of another. The next entry is the first of them.
+-- What is left of a task's body, as the accesses that its bytes read as: all of them at the start, one less after each step of that task,
+-- unchanged by a step of another. The next entry is the first of them.
 use mathlib.Core.Path.{_≡_, refl, sym, ap, _∙_}
 use mathlib.Core.List.{List, [], _∷_}
 use Prim.Native.Nat.{ℕ, _+_, _<_}
@@ -34,7 +34,7 @@ LeftOf m x b es = bodyEntries m (x .place) (part (x .place) (x .end) b) ≡ read
 abbrev pub Left : Run → List ℕ → ℕ → List Entry → Type 0
 Left r b t es = LeftOf (limitsOf r t) (taskAt (r .runs) t) b es
 
--- a body that begins with an entry: the entry is read first, and the rest behind it
+-- a body that begins with an entry: the entry is read first, and then the rest
 record First (m : Limits) (x : TaskRun) (b : List ℕ) (e : Entry) (es : List Entry) : Type 0 where
   pub entry : entryAt m (stop inBody (x .place)) (x .place) (part (x .place) (x .end) b) ≡ read e
   pub rest : LeftOf m (advanced x (x .place + entryLength e)) b es
@@ -73,17 +73,17 @@ module _ (r : Run) (b : List ℕ) (t : ℕ) where
   unfolding entryNext
   left-entry e es h = left-first (limitsOf r t) (taskAt (r .runs) t) b e es h .entry
 
-  -- a step of the task takes it off
+  -- a step of the task removes it
   pub left-own : (e : Entry) (es : List Entry) → Shaped r → t < maxTasks → Left r b t (e ∷ es) → Left (movedOf r t (taskAt (r .runs) t .place + entryLength e)) b t es
   unfolding movedOf
   left-own e es s k h = rw (moved-own r t (taskAt (r .runs) t .place + entryLength e) s k) (left-first (limitsOf r t) (taskAt (r .runs) t) b e es h .rest)
 
-  -- a step of another task leaves it
+  -- a step of another task makes no difference
   pub left-other : (u next : ℕ) (es : List Entry) → (t ≡ u → ⊥) → Left r b t es → Left (movedOf r u next) b t es
   unfolding movedOf
   left-other u next es d h = rw (moved-other r u next t d) h
 
--- at the start all of the task's accesses are left, as many as its count
+-- at the start all of the task's accesses are left, and their number is its count
 pub record LeftWhole (b : List ℕ) (p : Parsed) (t : ℕ) : Type 0 where
   pub left : Left (openedRun p) b t (getD (p .recording .bodies) t [])
   pub count : taskAt (openedRun p .runs) t .count ≡ length (getD (p .recording .bodies) t [])

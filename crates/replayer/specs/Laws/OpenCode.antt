@@ -1,4 +1,4 @@
--- One turn of each loop of the opening, and the opening as the code does it, over plain variables.
+-- One pass of each loop of the opening, and the opening as the code does it.
 use mathlib.Core.Path.{_≡_, refl, sym, _∙_}
 use mathlib.Core.List.{List}
 use Prim.Native.Nat.{ℕ, zero, suc, _+_, _-_, _<_, min}
@@ -33,7 +33,7 @@ pub starts-more : (spans : List Span) (n : ℕ) → startsOf spans (n + 1) ≡ s
 unfolding startsOf
 starts-more spans n = rw add-one
 
--- no task at 16 or above is set
+-- no task from 16 on is set
 pub starts-clipped : (spans : List Span) (n : ℕ) → startsOf spans (min n maxTasks) ≡ startsOf spans n
 starts-clipped spans n = elim (decLt n (maxTasks + 1)) [
   | yes h ↦ let e : min n maxTasks ≡ n = omega arith in rw e

@@ -1,5 +1,5 @@
--- What an accepted opening tells: the recording that the bytes are, each task at the start of its body with nothing done, a sound
--- run, and the starting values as memory.
+-- What an accepted opening means: the recording that the bytes are, each task at the start of its body with nothing done, a sound run,
+-- and the starting values as memory.
 use mathlib.Core.Path.{_≡_, refl, ap, _∙_}
 use mathlib.Core.Bool.{true}
 use mathlib.Core.List.{List}
@@ -40,7 +40,7 @@ starts-at spans (suc n) t h k = elim (ℕ-discrete t n) [
   | no e ↦ getD-set-other (startsOf spans n) n t (startOf (getD spans n noSpan)) blankTask e ∙ starts-at spans n t (omega arith) (omega (arith, e))
 ]
 
--- beyond the list everything is blank
+-- past the list's end everything is blank
 beyond : (runs : List TaskRun) (t : ℕ) → length runs ≤ t → doneOf runs t ≡ 0
 beyond runs t h = ap (λ (x : TaskRun). x .done) (List·getD-eq-default runs blankTask h)
 
@@ -90,7 +90,7 @@ opened-stands b p e =
       values = ap length (v .values) ∙ values-count (length (p .recording .owners)) _;
     }
 
--- bytes that read as a recording, with a memory of N entries: the opening is accepted
+-- if the bytes read as a recording and the memory has N entries, the opening is accepted
 pub open-accepts : (b memory : List ℕ) (p : Parsed) → parse b ≡ read p → length memory ≡ length (p .recording .owners)
     → openOf b memory ≡ record { answer = record { number = 0; offset = 0; run = openedRun p }; memory = p .recording .values }
 unfolding openOf onParse

@@ -1,4 +1,4 @@
--- The ready word of a sound run holds exactly the ready tasks; the count and the lowest are theirs. The word of an unsound run is 0.
+-- The ready word of a sound run has exactly the ready tasks; the count and the lowest are theirs. The word of an unsound run is 0.
 use mathlib.Core.Path.{_≡_, refl}
 use mathlib.Core.Bool.{Bool, true, false}
 use mathlib.Core.List.{List}
@@ -16,12 +16,12 @@ use Rattle.replayer.specs.ReadyOf.{isReady, readyOf}
 use Rattle.replayer.specs.Word.{wordOf, hasBit, countOf, lowestIn, readyCount, lowestReady}
 use Rattle.replayer.specs.Laws.Word.{word-bit, word-above, word-count, word-lowest}
 
--- t is the lowest of the n tests from i on that passes; or it is k, and none of them passes
+-- t is the index of the lowest of the n tests from i on that passes; or it is k, and none passes
 pub data LowestIs (k : ℕ) (f : ℕ → Bool) (i n t : ℕ) : Type 0 where
   ready : t < n → f (i + t) ≡ true → ((s : ℕ) → s < t → f (i + s) ≡ false) → LowestIs k f i n t
   nowhere : t ≡ k → ((s : ℕ) → s < n → f (i + s) ≡ false) → LowestIs k f i n t
 
--- one test more in front
+-- one more test in front
 earlier : (f : ℕ → Bool) (i n : ℕ) → f i ≡ false → ((s : ℕ) → s < n → f (suc i + s) ≡ false) → (s : ℕ) → s < suc n → f (i + s) ≡ false
 earlier f i n p g zero h = rw add-zero p
 earlier f i n p g (suc s) h = let e : i + suc s ≡ suc i + s = omega arith in rw e (g s (omega arith))

@@ -1,4 +1,4 @@
--- The ready word holds the ready set, and its ones and trailing zeros are the count of it and its lowest.
+-- The ready word represents the ready tasks; its number of ones is their count, and its trailing zeros give the lowest.
 use mathlib.Core.Bool.{Bool, true, false}
 use mathlib.Core.Path.{_≡_, refl, ap, _∙_, sym}
 use Prim.Native.Nat.{ℕ, zero, suc, _+_, _*_, _/_, _%_, _^_, _≤_, _<_, _-_}
@@ -39,7 +39,7 @@ unfolding wordOf
 word-fits f i zero = omega arith
 word-fits f i (suc n) = rw pow-suc (omega (arith, word-fits f (suc i) n, bit-low (f i)))
 
--- bit t of the word is the test of task i + t, for each of its n tasks
+-- bit t of the word is the test of task i + t, for each of the n tasks
 zero-bit : (t : ℕ) → hasBit 0 t ≡ false
 unfolding hasBit
 zero-bit zero = refl
@@ -57,7 +57,7 @@ word-above f i zero t h = rw word-none (zero-bit t)
 word-above f i (suc n) zero h = absurd (omega arith)
 word-above f i (suc n) (suc t) h = rw (word-half f i n) (word-above f (suc i) n t (omega arith))
 
--- a word is the word of its bits
+-- a word is the word made of its bits
 word-shift : (f : ℕ → Bool) (i n : ℕ) → wordOf f (suc i) n ≡ wordOf (λ t. f (suc t)) i n
 unfolding wordOf
 word-shift f i zero = refl
@@ -107,14 +107,14 @@ word-zeros (suc k) f i (suc n) h = zeros-step k (wordOf f i (suc n)) ∙ rw (wor
     cases true = refl
     cases false = refl
 
--- the machine's counts of a word's bits
+-- the machine's bit counts
 pub count-ones : (w : ℕ) → w < 2 ^ 16 → ones w ≡ readyCount w
 count-ones w h = ap ones (sym (word-self w 16 h)) ∙ word-ones (hasBit w) 0 16
 
 pub count-zeros : (w : ℕ) → w < 2 ^ 16 → trailingZeros 16 w ≡ lowestReady w
 count-zeros w h = ap (trailingZeros 16) (sym (word-self w 16 h)) ∙ word-zeros 16 (hasBit w) 0 16 (omega arith)
 
--- of a ready word they are the count of the ready set and its lowest
+-- for a ready word they are the number of ready tasks and the lowest of them
 module _ (f : ℕ → Bool) (n : ℕ) (h : n ≤ 16) where
   word-small : wordOf f 0 n < 2 ^ 16
   word-small = omega (arith, word-fits f 0 n, pow-mono {i = n} {j = 16} h)

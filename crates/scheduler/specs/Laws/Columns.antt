@@ -1,4 +1,4 @@
--- A run as columns: T, N, and of the tasks' places, ends, counts done and counts a list of 16 each.
+-- A run as columns: T, N, and one list of 16 each for the tasks' places, ends, numbers of accesses done, and counts.
 use mathlib.Core.Bool.{Bool, not}
 use mathlib.Core.List.{List}
 use Prim.Native.Nat.{ℕ, _+_, _<_}
@@ -23,7 +23,7 @@ use Rattle.pending.specs.Laws.Each.{each-length, each-at, each-of}
 use Rattle.pending.specs.Laws.Look.{OneTask}
 use Rattle.pending.specs.Laws.Moved.{Shaped, moved-shaped, moved-own, moved-other}
 
--- the run that columns hold
+-- the run that the columns represent
 abbrev pub taskOf : List ℕ → List ℕ → List ℕ → List ℕ → ℕ → TaskRun
 taskOf places ends dones counts t = record { place = getD places t 0; end = getD ends t 0; done = getD dones t 0; count = getD counts t 0 }
 
@@ -48,7 +48,7 @@ columnsOf r = record {
   counts = each (countOf (r .runs)) maxTasks;
 }
 
--- no task of them has accesses left
+-- whether a task, or every task, has no accesses left, by the columns
 abbrev pub doneBy : List ℕ → List ℕ → ℕ → Bool
 doneBy dones counts t = not (ltb (getD dones t 0) (getD counts t 0))
 
@@ -72,11 +72,11 @@ module _ (tasks objects : ℕ) (places ends dones counts : List ℕ) where
     columns-dones : donesOf (runOf tasks objects places ends dones counts .runs) ≡ dones
     columns-dones = each-of _ maxTasks dones 0 d (λ t h. ap (λ (y : TaskRun). y .done) (columns-task t h))
 
-    -- what a visit is handed
+    -- what `visit` is given
     pub columns-one : (t : ℕ) → t < maxTasks → OneTask (runOf tasks objects places ends dones counts) t (taskOf places ends dones counts t) (limitsOf (runOf tasks objects places ends dones counts) t) dones
     columns-one t h = record { task = sym (columns-task t h); limits = refl; counts = columns-dones }
 
-    -- a task goes on to a place, with one more access done
+    -- a task moves on to a place, with one more access done
     pub columns-moved : (t next k : ℕ) → t < maxTasks → length places ≡ maxTasks → k ≡ doneOf (runOf tasks objects places ends dones counts .runs) t + 1
         → runOf tasks objects (set places t next) ends (set dones t k) counts ≡ movedOf (runOf tasks objects places ends dones counts) t next
     unfolding movedOf
@@ -91,7 +91,7 @@ module _ (tasks objects : ℕ) (places ends dones counts : List ℕ) where
           | no q ↦ rw (moved-other r t next u q, columns-task u l, getD-set-other places t u next 0 q, getD-set-other dones t u k 0 q)
         ]
 
-  -- whether they have finished is told by the counts alone
+  -- whether the run has finished depends on the counts alone
   pub columns-finished : finishedOf (runOf tasks objects places ends dones counts) ≡ allDoneOf tasks dones counts
   columns-finished = all-same (isDone (runOf tasks objects places ends dones counts)) (doneBy dones counts) (tasksIn tasks) (λ t h. rw (columns-task t (omega (arith, h, tasks-few tasks))))
 

@@ -1,4 +1,5 @@
--- Columns on the way of a play, over plain variables: the run that they hold is sound, and the notes are true of it.
+-- Columns during a play: the run they represent is sound, and the notes are true of it. A note says how far a waiting task's orderings
+-- have been tested (`Visit`).
 use mathlib.Core.Path.{_≡_, sym, ap, _∙_}
 use mathlib.Core.Bool.{true}
 use mathlib.Core.List.{List}
@@ -23,7 +24,7 @@ pub record Columned (b : List ℕ) (tasks objects : ℕ) (places ends dones coun
   pub dones-all : length dones ≡ maxTasks
   pub noted : Noted (runOf tasks objects places ends dones counts) b scans ats
 
--- at first nothing is noted
+-- at the start there are no notes
 pub columned-none : (b : List ℕ) (r : Run) (k : Columns) → k ≡ columnsOf r → Shaped r → soundOf r (length b) ≡ true
     → Columned b (r .tasks) (r .objects) (k .places) (k .ends) (k .dones) (k .counts) (replicate maxTasks 0) (replicate maxTasks 0)
 columned-none b r k e s h = record {
@@ -33,7 +34,7 @@ columned-none b r k e s h = record {
   noted = noted-none _ b;
 }
 
--- the notes after a visit
+-- the notes after one task was tested
 pub columned-noted : {b : List ℕ} {tasks objects : ℕ} {places ends dones counts scans ats visited-scans visited-ats : List ℕ}
     → Columned b tasks objects places ends dones counts scans ats → Noted (runOf tasks objects places ends dones counts) b visited-scans visited-ats
     → Columned b tasks objects places ends dones counts visited-scans visited-ats

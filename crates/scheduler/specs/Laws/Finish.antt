@@ -1,5 +1,5 @@
--- A play comes to its end: each step of a ready task leaves one access fewer, so the steps that are allowed never run out, and at the
--- end no task is ready.
+-- A play reaches its end: each step of a ready task leaves one access fewer, so the allowed number of steps is never used up before, and
+-- at the end no task is ready.
 use mathlib.Core.Path.{_≡_, refl, sym, _∙_}
 use mathlib.Core.Bool.{Bool, true, false}
 use mathlib.Core.List.{List}
@@ -28,7 +28,7 @@ pub record Playing (b : List ℕ) (x : Play) : Type 0 where
   pub shaped : Shaped (x .run)
   pub entries : length (x .memory) ≡ x .run .objects
 
--- no test passes: the word is 0
+-- if no test passes, the word is 0
 word-zero : (f : ℕ → Bool) (i n : ℕ) → ((s : ℕ) → s < n → f (i + s) ≡ false) → wordOf f i n ≡ 0
 unfolding wordOf
 word-zero f i zero g = refl
@@ -37,13 +37,13 @@ word-zero f i (suc n) g =
     let q : wordOf f (suc i) n ≡ 0 = word-zero f (suc i) n (λ s h. let e : suc i + s ≡ i + suc s = omega arith in rw e (g (suc s) (omega arith))) in
     rw (p, q)
 
--- a word that is not 0 names a ready task
+-- a word that is not 0 has the bit of a ready task
 module _ (r : Run) (b : List ℕ) (s : soundOf r (length b) ≡ true) where
   pub ready-word-zero : ((t : ℕ) → t < r .tasks → isReady r b t ≡ false) → readyOf r b .word ≡ 0
   unfolding readyOf
   ready-word-zero g = rw s (word-zero (isReady r b) 0 (r .tasks) (λ t h. let e : 0 + t ≡ t = omega arith in rw e (g t h)))
 
--- what a step takes away
+-- what a step takes from the accesses left
 left-same : (r : Run) (t next n : ℕ) → n ≤ t → leftIn (movedOf r t next .runs) n ≡ leftIn (r .runs) n
 unfolding leftIn
 left-same r t next zero h = refl
@@ -58,7 +58,7 @@ left-less r t next (suc n) s k l h = elim (ℕ-discrete n t) [
   | no e ↦ rw (moved-other r t next n e) (omega (arith, left-less r t next n s k l (omega (arith, e))))
 ]
 
--- one step of a play that goes on
+-- one more step of a play
 pub record Onward (b : List ℕ) (x : Play) : Type 0 where
   pub playing : Playing b (onward b x)
   pub fewer : leftOver (onward b x .run) + 1 ≡ leftOver (x .run)
@@ -85,7 +85,7 @@ module _ (b : List ℕ) (x : Play) (w : Playing b x) where
     | nowhere e g ↦ absurd (z (ready-word-zero (x .run) b (w .sound) (λ t h. let e : 0 + t ≡ t = omega arith in rw e at (g t h))))
   ]
 
-  -- the loop: one turn, and the end
+  -- the loop: one pass, and the end
   pub finish-on : (wordAt b x ≡ 0 → ⊥) → finishOf b x ≡ finishOf b (onward b x)
   unfolding playedOf
   finish-on z =
@@ -100,7 +100,7 @@ stays-put (suc n) b x z = rw (eq-eqb (wordAt b x) 0 z)
 pub finish-end : (b : List ℕ) (x : Play) → wordAt b x ≡ 0 → finishOf b x ≡ x
 finish-end b x z = stays-put (leftOver (x .run)) b x z
 
--- the steps never run out: at the end no task is ready
+-- the number of steps is enough: at the end no task is ready
 ends : (n : ℕ) (b : List ℕ) (x : Play) → Playing b x → leftOver (x .run) ≤ n → wordAt b (playedOf n b x) ≡ 0
 unfolding playedOf
 ends zero b x w h = elim (ℕ-discrete (wordAt b x) 0) [ yes z ↦ z | no z ↦ absurd (omega (arith, goes-onward b x w z .fewer)) ]

@@ -1,4 +1,4 @@
--- The lowest ready task of a run and its next access, or no task is ready (document 01, "Replay"); and the run behind that access.
+-- The lowest ready task of a run and its next access, if there is one (document 01, "Replay"); and the run after that access.
 use mathlib.Core.Bool.{cond, Bool, true, false}
 use mathlib.Core.List.{List}
 use Prim.Native.Nat.{ℕ, _+_, _≤_, _<_}
@@ -40,11 +40,11 @@ readyAt t (Refused c) = Stopped
 unfoldable pub lowestOf : Run → List ℕ → NextStep
 lowestOf r b = cond (eqb (readyOf r b .word) 0) Stopped (readyAt (nextTask b r) (nextOf r b (nextTask b r)))
 
--- the run behind that access, or as it was
+-- the run after that access, or unchanged if no task is ready
 unfoldable pub afterOf : Run → List ℕ → Run
 afterOf r b = cond (eqb (readyOf r b .word) 0) r (behindOf r (nextTask b r) (nextOf r b (nextTask b r)))
 
--- there is one lowest
+-- there is only one lowest
 lowest-same : (f : ℕ → Bool) (n t u : ℕ) → LowestIs maxTasks f 0 n u → t < n → f t ≡ true → ((s : ℕ) → s < t → f s ≡ false) → u ≡ t
 lowest-same f n t u (nowhere e g) h p k = absurd (let o : 0 + t ≡ t = omega arith in never (f t) p (rw o at (g t h)))
 lowest-same f n t u (ready l q g) h p k =
@@ -82,7 +82,7 @@ pub record SteppedTo (r : Run) (b : List ℕ) (t : ℕ) (op : Op) (q : Run) : Ty
   pub is : IsNext r b t op next
   pub run : q ≡ movedOf r t next
 
--- there is one, or no task is ready
+-- there is such a task, or no task is ready
 pub data Standing (r : Run) (b : List ℕ) : Type 0 where
   goes-on : (t : ℕ) (op : Op) (next : ℕ) → IsNext r b t op next → Standing r b
   stops : readyOf r b .word ≡ 0 → Standing r b
@@ -103,7 +103,7 @@ module _ (r : Run) (b : List ℕ) where
         let f : t < maxTasks = omega (arith, sound-facts r (length b) s .few-tasks) in
         record { below = h; few = f; left = both-pass (hasLeft r t) _ q .0; goes = λ z. omega (arith, e, ap lowestReady z ∙ no-lowest); first = e; opens = n }
 
-    -- the tasks are visited from 0 on: the first that is open, or none
+    -- the tasks are tested from 0 on: the first one that may go, or none
     pub visit-first : (t : ℕ) (op : Op) (next : ℕ) → t < r .tasks → isReady r b t ≡ true → nextOf r b t ≡ Open op next → ((u : ℕ) → u < t → isReady r b u ≡ false) → IsNext r b t op next
     visit-first t op next h q n g = is-next t op next h q n (lowest-same (isReady r b) (r .tasks) t (nextTask b r) (ready-word r b s .lowest) h q g)
 
@@ -125,7 +125,7 @@ module _ (r : Run) (b : List ℕ) where
         opened Held e h q = absurd (closed q (rw e))
         opened (Refused c) e h q = absurd (closed q (rw e))
 
-    -- what is found tells which
+    -- the result says which
     pub found-next : (n : NextStep) (q : Run) (t : ℕ) (op : Op) → n ≡ lowestOf r b → q ≡ afterOf r b → n ≡ Ready t op → SteppedTo r b t op q
     found-next n q t op e f h = elim standing [
       | goes-on u o k w ↦
@@ -142,7 +142,7 @@ module _ (r : Run) (b : List ℕ) where
       | stops z ↦ (z, f ∙ lowest-none z .1)
     ]
 
--- the run behind that access: sound as before, with one access fewer
+-- the run after that access: still sound, with one access fewer
 pub record Behind (r : Run) (b : List ℕ) (t next : ℕ) : Type 0 where
   pub sound : soundOf (movedOf r t next) (length b) ≡ true
   pub fewer : leftOver (movedOf r t next) + 1 ≡ leftOver r

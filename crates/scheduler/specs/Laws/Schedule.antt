@@ -1,4 +1,5 @@
--- The order of a play: it is that of the play to the end, each of its steps is taken, and no task is ready behind it.
+-- The order of a play: it is the order in which the play to the end steps the tasks, each of its steps is taken, and no task is ready
+-- after it.
 use mathlib.Core.Path.{_≡_, refl}
 use mathlib.Core.Bool.{true}
 use mathlib.Core.List.{List, [], _∷_}
@@ -60,7 +61,7 @@ short (suc n) b r = elim (ℕ-discrete (readyOf r b .word) 0) [
 pub schedule-short : (b : List ℕ) (r : Run) → length (scheduleOf b r) ≤ leftOver r
 schedule-short b r = short (leftOver r) b r
 
--- each step of a list is taken where it stands: its number is 0
+-- each step of a list is taken in its place: its number is 0
 unfoldable pub AllTaken : List ℕ → Play → List ℕ → Type 0
 AllTaken b x [] = Unit {0}
 AllTaken b x (t ∷ ts) = (stepOf (x .run) b (x .memory) t .answer .number ≡ 0) × AllTaken b (steppedBy b x t) ts

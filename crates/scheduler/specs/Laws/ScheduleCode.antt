@@ -1,4 +1,4 @@
--- The loop that writes the order, over plain variables: what is written, and what is still to come behind it, is the order.
+-- The loop that writes the order: what has been written, followed by what is still to come, is the order.
 use mathlib.Core.Path.{_≡_, refl, ap, _∙_}
 use mathlib.Core.Bool.{false}
 use mathlib.Core.List.{List, []}
@@ -18,7 +18,7 @@ use Rattle.scheduler.specs.Schedule.{scheduleFrom}
 use Rattle.scheduler.specs.Laws.Schedule.{schedule-stops, schedule-goes}
 use Rattle.pending.specs.Sound.{soundOf}
 
--- a buffer and the run after n steps, against those at first
+-- a buffer and the run after n steps, compared with those at the start
 pub record Writing (b : List ℕ) (out₀ : List ℕ) (r₀ : Run) (out : List ℕ) (r : Run) (n : ℕ) : Type 0 where
   pub within : n ≤ length out
   pub long : length out ≡ length out₀

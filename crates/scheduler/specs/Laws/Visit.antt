@@ -1,5 +1,5 @@
--- A task visited on the way to the lowest that is ready, with a note of how far the next entry of each held task is judged. A note stays
--- true while others step, and a step of the task itself leads past the access's record and so ends it.
+-- Testing one task in the search for the lowest ready one, with a note for each waiting task of how far its orderings have been tested. A
+-- note stays true while other tasks step; a step of the task itself goes past the access's record, and the note then says nothing.
 use mathlib.Core.Path.{_≡_, refl, sym, ap, _∙_}
 use mathlib.Core.Bool.{false}
 use mathlib.Core.List.{List}
@@ -29,7 +29,8 @@ use Rattle.pending.specs.Laws.FirstUnmet.{done-all, ahead-later}
 use Rattle.replayer.specs.ReadyOf.{isReady}
 use Rattle.pending.specs.Run.{taskAt, limitsOf, movedOf}
 
--- the access's record stands at `at`, and the entry's orderings before `scan` are met; a note of a record that is passed says nothing
+-- a note: the access's record is at `at`, and the entry's orderings before `scan` are met; a note about a record that has been passed
+-- says nothing
 abbrev pub Note : Limits → List ℕ → List ℕ → TaskRun → ℕ → ℕ → Type 0
 Note m b dones x scan at = x .place < at → Ahead m b dones (x .place) (x .end) scan at
 
@@ -39,26 +40,26 @@ pub record Noted (r : Run) (b scans ats : List ℕ) : Type 0 where
   pub ats-all : length ats ≡ maxTasks
   pub notes : (t : ℕ) → Note (limitsOf r t) b (donesOf (r .runs)) (taskAt (r .runs) t) (getD scans t 0) (getD ats t 0)
 
--- what is found of a task, and the notes after it
+-- what was found about a task, and the notes after it
 pub record Visited (r : Run) (b : List ℕ) (t : ℕ) (scans ats : List ℕ) (n : Next) : Type 0 where
   pub ready : isReady r b t ≡ isOpen n
   pub opens : (op : Op) (next : ℕ) → n ≡ Open op next → nextOf r b t ≡ Open op next
   pub noted : Noted r b scans ats
 
--- one task more that is not ready
+-- one more task that is not ready
 pub none-more : (r : Run) (b : List ℕ) (t : ℕ) → ((s : ℕ) → s < t → isReady r b s ≡ false) → isReady r b t ≡ false → (s : ℕ) → s < t + 1 → isReady r b s ≡ false
 none-more r b t g p s h = elim (ℕ-discrete s t) [ yes e ↦ rw e p | no e ↦ g s (omega (arith, e)) ]
 
--- at first nothing is noted
+-- at the start there are no notes
 pub noted-none : (r : Run) (b : List ℕ) → Noted r b (replicate maxTasks 0) (replicate maxTasks 0)
 noted-none r b = record { scans-all = refl; ats-all = refl; notes = λ t h. absurd (omega (arith, h, zeros-at maxTasks t)) }
 
 module _ (r : Run) (b : List ℕ) (t : ℕ) (x : TaskRun) (m : Limits) (dones scans ats : List ℕ) (w : OneTask r t x m dones) (n : Noted r b scans ats) where
-  -- the task's note, by what the code has
+  -- the task's note, from what the code knows
   pub own-note : Note m b dones x (getD scans t 0) (getD ats t 0)
   own-note = rw (w .task, w .limits, ← w .counts) (n .notes t)
 
-  -- nothing is left
+  -- no accesses are left
   pub visit-none : x .count ≤ x .done → Visited r b t scans ats Held
   unfolding isReady
   visit-none h = record {
@@ -67,7 +68,7 @@ module _ (r : Run) (b : List ℕ) (t : ℕ) (x : TaskRun) (m : Limits) (dones sc
     noted = n;
   }
 
-  -- a look
+  -- the group is read
   pub visit-looks : x .done < x .count → (k : Next) → Looks dones (x .place) (groupAt m b (x .place) (x .end)) k → (s a : List ℕ) → Noted r b s a → Visited r b t s a k
   unfolding isReady
   visit-looks g k l s a d =
@@ -86,7 +87,7 @@ module _ (r : Run) (b : List ℕ) (t : ℕ) (x : TaskRun) (m : Limits) (dones sc
       ];
     }
 
-    -- its entry is judged further
+    -- its orderings are tested further
     pub noted-scan : Ahead m b dones (x .place) (x .end) scan (getD ats t 0) → Noted r b (set scans t scan) ats
     noted-scan k = rw (set-getD ats t 0) at (noted-set (getD ats t 0) (λ h. k))
 
@@ -98,7 +99,7 @@ module _ (r : Run) (b : List ℕ) (t : ℕ) (op : Op) (next : ℕ) (s : Shaped r
     | no e ↦ omega (arith, ap (λ (y : TaskRun). y .done) (moved-other r t next u e))
   ])
 
-  -- the place behind the access is past its record
+  -- the place after the access is past its record
   past : (scan at : ℕ) → Note (limitsOf r t) b (donesOf (r .runs)) (taskAt (r .runs) t) scan at → at ≤ next
   unfolding nextOf entryNext
   past scan at n = elim (decLt (taskAt (r .runs) t .place) at) [

@@ -1,4 +1,4 @@
--- An answer as the code puts it together.
+-- An answer as the code assembles it.
 use mathlib.Core.Path.{_≡_}
 use mathlib.Core.List.{List, _++_}
 use Prim.Native.Nat.{ℕ, _≤_, _<_}

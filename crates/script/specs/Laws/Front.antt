@@ -1,4 +1,4 @@
--- What is put at the front of a list.
+-- Bytes put at the front of a list.
 use mathlib.Core.Path.{_≡_, ap, _∙_, sym}
 use mathlib.Core.List.{List, _++_, append-assoc}
 use Prim.Native.Nat.{ℕ, _+_, _≤_}
@@ -8,7 +8,7 @@ use lib.Seq.{drop-append-le, length-take-le}
 use Rattle.codec.specs.Laws.Store.{store-split}
 use Rattle.text.specs.Appended.{Appended}
 
--- what is put at the front of a list's first n elements is put at the front of the list
+-- bytes put at the front of a list's first n elements are at the front of the list
 pub front-appended : (l part bytes : List ℕ) (n end : ℕ) → n ≤ length l → end ≤ n → Appended bytes (take n l) 0 part end → Appended bytes l 0 (part ++ drop n l) end
 front-appended l part bytes n end h k a =
     let e : length (take n l) ≡ n = length-take-le n l h in

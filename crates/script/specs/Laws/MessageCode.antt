@@ -1,4 +1,4 @@
--- A message as the code puts it into a buffer.
+-- A message as the code writes it into a buffer.
 use mathlib.Core.Path.{_≡_}
 use mathlib.Core.List.{List}
 use Prim.Native.Nat.{ℕ, _+_, _≤_}

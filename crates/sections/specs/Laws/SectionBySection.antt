@@ -1,4 +1,4 @@
--- The section writer called for one task after another, each with what the one before left of the output.
+-- The section writer called for one task after another, each with the rest of the output after the one before.
 use mathlib.Core.Bool.{Bool, true, _&&_}
 use mathlib.Core.List.{List, [], _∷_, _++_}
 use Prim.Native.Nat.{ℕ, suc, _+_}
@@ -13,7 +13,7 @@ pub record Joined : Type 0 where
   pub written : ℕ
   pub out : List ℕ
 
--- the output behind a section
+-- the output after a section
 abbrev pub behind : SectionOutcome → List ℕ
 behind o = drop (o .answer .written) (o .out)
 

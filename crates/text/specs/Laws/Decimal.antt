@@ -1,4 +1,4 @@
--- How many digits a number has, and that the kit's digits are these.
+-- The number of digits of a number, and that the kit's digits are these.
 use mathlib.Core.Path.{_≡_, refl}
 use mathlib.Core.Bool.{Bool, true, false, cond}
 use mathlib.Core.List.{[], _∷_, _++_}
@@ -26,7 +26,7 @@ decimal-short n = within 20 n
 glyph-ten : (n : ℕ) → glyph (n % 10) ≡ 48 + n % 10
 glyph-ten n = rw (lt-ltb (n % 10) 10 (mod-lt n (omega arith)))
 
--- the fewest digits that hold a number are its digits without leading zeros
+-- the fewest digits that represent a number are its digits without leading zeros
 fewest-digits : (j k n : ℕ) → n < 10 ^ suc j → (1 < suc j → 10 ^ j ≤ n) → j < k → digits 10 (suc j) n ≡ digitsWithin k n
 unfolding digitsWithin
 fewest-digits j zero n h g l = absurd (omega arith)
@@ -54,7 +54,7 @@ pub decimal-so : (n r : ℕ) → n < 10 ^ 20 → Fewest 10 1 n r → digits 10 r
 decimal-so n zero h f = absurd (omega (arith, f .0))
 decimal-so n (suc j) h f = let e : suc j - 1 ≡ j = omega arith in fewest-digits j 20 n (f .1) (λ g. rw e at (f .2 g)) (omega (arith, short n (suc j) h f))
 
--- a number below a power of ten has no more digits than its exponent
+-- a number below a power of ten has at most as many digits as the exponent
 digits-few : (k j n : ℕ) → n < 10 ^ suc j → length (digitsWithin k n) ≤ suc j
 unfolding digitsWithin
 digits-few zero j n h = omega arith

@@ -1,4 +1,4 @@
--- The loops of a script and of a replay, over plain variables.
+-- Laws for the loops of a script and of a replay.
 use mathlib.Core.Path.{_≡_}
 use mathlib.Core.List.{List}
 use Prim.Native.Nat.{ℕ, suc, _+_, _*_, _-_, _<_, _≤_}
@@ -35,7 +35,7 @@ module _ (b : List ℕ) (x : Replayed) (size i : ℕ) where
     unfolding stepsIn
     steps-more k = let e : size - i ≡ suc (size - (i + 1)) = omega arith in rw (e, ne-eqb (taskNext b x) 16 k)
 
--- a turn of the script's loop, and of the replay's, as the code makes it
+-- one pass of the script's loop, and of the replay's, as the code does it
 pub access-turn : (script : List ℕ) (i : ℕ) (start y : Scripted) (task object : ℕ) (a : Accessed) (memory out : List ℕ) (word digest : ℕ) →
     let o = accessOf (y .state) task object (getD script (4 * i + 2) 0) (getD script (4 * i + 3) 0) (y .memory) (y .out) in
     y ≡ accessesTo script i start → task ≡ getD script (4 * i) 0 → object ≡ getD script (4 * i + 1) 0

@@ -1,4 +1,5 @@
--- An accepted access (document 01, "Whole runs"): what it adds to the history and does to memory. The value of a read is not looked at.
+-- An accepted access (document 01, "Whole runs"): what it adds to the history and does to memory. The value argument of a read is
+-- ignored.
 use mathlib.Core.Bool.{Bool, true, false, cond}
 use Prim.Native.Nat.{ℕ}
 use lib.Dec.{eqb}
@@ -6,7 +7,7 @@ use Rattle.history.specs.Entry.{Act, Entry}
 use Rattle.tracker.specs.Orderings.{writtenOf}
 use Rattle.tracker.specs.declared.State.{State}
 
--- a write stores its value, and a read gives the value that its object held
+-- a write stores its value, and a read returns its object's value
 abbrev pub actOf : ℕ → Bool → ℕ → ℕ → Act
 actOf object true value held = Act.write object value
 actOf object false value held = Act.read object held

@@ -1,4 +1,4 @@
--- What is read off the state after an access: Done rises by one for the accessing task alone, and what others have stays.
+-- The state after an access, part by part: Done grows by one for the accessing task only, and the others' parts stay.
 use mathlib.Core.Bool.{Bool}
 use mathlib.Core.Path.{_≡_, refl, ap}
 use Prim.Native.Nat.{ℕ, _+_, _<_}

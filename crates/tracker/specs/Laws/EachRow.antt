@@ -1,5 +1,5 @@
--- The table row by row (document 01, "Transition table"): the access follows every earlier one that it conflicts with, and
--- its object stays covered. The other objects are in Moves.
+-- The table row by row (document 01, "Transition table"): the access comes after every earlier one it conflicts with, and its object
+-- stays covered. The other objects are in Moves.
 use mathlib.Core.Bool.{Bool, true, false}
 use mathlib.Core.List.{_∷_, List·Memᴰ, List·Memᴰ·head, List·Memᴰ·tail}
 use mathlib.Core.Path.{_≡_, refl}
@@ -27,7 +27,7 @@ use Rattle.tracker.specs.declared.Locality.the-variants.{WriteExclusive}
 use Rattle.tracker.specs.declared.Row.{Row}
 use Rattle.tracker.specs.declared.State.{State}
 
--- what an access to an object conflicts with: a write with all accesses on it, a read with its writes
+-- what an access to an object conflicts with: a write with every access to it, a read with its writes
 abbrev pub conflicting : Bool → ℕ → Act → Bool
 conflicting true object = touches object
 conflicting false object = writes object
@@ -36,7 +36,7 @@ follows-any : {e : Entry} {h : History} (write : Bool) (object : ℕ) → Follow
 follows-any true object f = f
 follows-any false object f = follows-fewer (writes-touches object) f
 
--- what is shown of each row; `l` is the object's new state
+-- what is proved for each row; `l` is the object's new state
 pub record RowKeeps (e : Entry) (h : History) (s after : State) (object : ℕ) (write : Bool) (l : Locality) : Type 0 where
   pub follows : Follows e h (conflicting write object)
   pub moves : Moves e h s after
@@ -50,20 +50,20 @@ module _ (e : Entry) (h : History) (s after : State) (object : ℕ) (i : Invaria
   awaits-mine : Awaits e h (doneAt s (e .task))
   awaits-mine = awaits-own e h (doneAt s (e .task)) refl (omega (arith, number))
 
-  -- the object is then the accessing task's alone, for writing: rows 1, 4, 7, 9 and 10
+  -- afterwards the accessing task holds the object alone, for writing: rows 1, 4, 7, 9 and 10
   to-writer : (write : Bool) → Leaves s (e .task) (unchanged s (e .task)) after → Follows e h (touches object)
       → RowKeeps e h s after object write (WriteExclusive (e .task))
   to-writer write k f =
       let m : Moves e h s after = plain-moves k number in
       record { follows = follows-any write object f; moves = m; covered = write-exclusive (done-covers m f) }
 
-  -- row 10: what every task has done is awaited, so every entry is followed
+  -- row 10: the entry is ordered after everything that every task has done, so it comes after every entry
   follows-every : ((task : ℕ) → task < s .tasks → Awaits e h (doneAt s task)) → Follows e h (touches object)
   follows-every awaits = record {
     has = λ {d} {f} {k} closed inside a t. omega (arith, awaits (f .task) (i .tasks-low a) .reached closed inside, i .counts (f .task), at-lt (f .task) a refl);
   }
 
-  -- From what the object's state covers, what the row leaves, and that every ordering of the row is awaited.
+  -- From what the object's state covers, what the row leaves, and that the access is ordered after every ordering of the row.
   pub row-keeps : {l : Locality} {write : Bool} {row : Row} → View (e .task) (seenOf s (e .task)) l write row → Covered h s object l
       → Leaves s (e .task) (effectOf row s (e .task) l) after → ((p : Position) → List·Memᴰ p (orderingsOf row s l) → Awaits e h p)
       → (write ≡ false → writes object (e .act) ≡ false) → RowKeeps e h s after object write (localityAfter row s (e .task) l)

@@ -1,5 +1,5 @@
--- What a row leaves in Done, Seen, Took and Last (document 01, "other effects"), as one record of equations; and when that is
--- a move which keeps other objects covered.
+-- What a row leaves in Done, Seen, Took and Last (document 01, "other effects"), as one record of equations; and when such a change keeps
+-- other objects covered.
 use mathlib.Core.Bool.{Bool}
 use mathlib.Core.Path.{_≡_}
 use Prim.Native.Nat.{ℕ, _+_, _≤_, _<_}
@@ -59,7 +59,7 @@ module _ {e : Entry} {h : History} {s after : State} {effect : Effect} (k : Leav
     last = last;
   }
 
--- rows that leave Seen, Took and Last
+-- rows that leave Seen, Took and Last unchanged
 pub plain-moves : {e : Entry} {h : History} {s after : State} → Leaves s (e .task) (unchanged s (e .task)) after → doneOf s (e .task) ≡ count (e .task) h
     → Moves e h s after
 plain-moves k number = moves k number (omega arith) (seen-stays (k .seen)) (last-stays (k .last))

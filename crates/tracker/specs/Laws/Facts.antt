@@ -1,4 +1,4 @@
--- Soundness as facts, each bound by its name, and back to the test.
+-- Soundness as named facts, and back to the test.
 use mathlib.Core.Bool.{Bool, true, false, cond, _&&_, and-eq-true-iff}
 use mathlib.Core.List.{List}
 use mathlib.Core.Path.{_≡_, refl}

@@ -1,5 +1,5 @@
--- What is written implies the full list (document 01: "an ordering with s = 0, or with S the accessing task, is not
--- written"): closed counts that have the access in meet the orderings left out too.
+-- The written orderings imply the full list (document 01: "an ordering with s = 0, or with S the accessing task, is not written"): closed
+-- counts that contain the access also meet the orderings that were left out.
 use mathlib.Core.Path.{_≡_, refl}
 use mathlib.Core.List.{List, [], _∷_, List·Memᴰ, List·Memᴰ·head, List·Memᴰ·tail, List·Memᴰ·not-nil, List·Memᴰ·cases-cons}
 use mathlib.Core.Logic.{⊎-elim}
@@ -23,8 +23,8 @@ met-at : (d : ℕ → ℕ) (l : List Position) → Met d l → (p : Position) �
 met-at d [] all p m = absurd (List·Memᴰ·not-nil m)
 met-at d (q ∷ l) all p m = ⊎-elim (λ (e : p ≡ q). rw e (all .0)) (λ (n : List·Memᴰ p l). met-at d l (all .1) p n) (List·Memᴰ·cases-cons m)
 
--- An ordering that is left out has number 0, or is from the accessing task, which has done all that it had done before once
--- the access is in. `before` is what each task had done when the access was made.
+-- An ordering that is left out has number 0, or comes from the accessing task, which has done all its earlier accesses once this one is
+-- in. `before` is what each task had done when the access was made.
 pub written-implies-full : (d before : ℕ → ℕ) (task : ℕ) (full : List Position) → before task ≤ d task → Met before full
     → Met d (written task full) → Met d full
 written-implies-full d before task full own back met = met-from d full each
@@ -45,7 +45,7 @@ written-implies-full d before task full own back met = met-from d full each
 pub full-implies-written : (d : ℕ → ℕ) (task : ℕ) (full : List Position) → Met d full → Met d (written task full)
 full-implies-written d task full met = met-from d (written task full) (λ p m. met-at d full met p (written-in task p full m .0))
 
--- so the newest entry, by what it writes, awaits every ordering of the full list
+-- so the newest entry, by what it writes, is ordered after every ordering of the full list
 pub awaits-full : (e : Entry) (h : History) (full : List Position) → e .orderings ≡ written (e .task) full → Met (λ t. count t h) full
     → (p : Position) → List·Memᴰ p full → Awaits e h p
 awaits-full e h full writes back p m = record {

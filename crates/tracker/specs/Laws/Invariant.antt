@@ -1,5 +1,5 @@
--- What holds of a recording state and the history that led to it (document 01, "Tasks, objects, positions"): the state is
--- sound, Done counts the entries, and each object is covered as its state says.
+-- What holds for a recording state and the history that led to it (document 01, "Tasks, objects, positions"): the state is sound, Done
+-- counts the entries, and each object is covered as its state says.
 use mathlib.Core.Path.{_≡_}
 use Prim.Native.Nat.{ℕ, _<_}
 use Rattle.history.specs.Entry.{Entry}

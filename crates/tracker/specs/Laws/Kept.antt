@@ -25,7 +25,7 @@ use Rattle.tracker.specs.declared.ObjectRecord.{ObjectRecord}
 use Rattle.tracker.specs.declared.Row.{Row}
 use Rattle.tracker.specs.declared.State.{State}
 
--- what the number table asks of an access besides a sound state: 5, 6 and 8
+-- what the number table requires of an access besides a sound state: 5, 6 and 8
 pub record Accepts (s : State) (task object : ℕ) : Type 0 where
   pub task-low : task < s .tasks
   pub object-low : object < s .objects
@@ -49,7 +49,7 @@ set-cases P l i j a d h same other = cases (eqb j i) refl
     cases true e = let k : j ≡ i = eqb-true j i e in rw (k, getD-set-same l i a d h) (same k)
     cases false e = rw (getD-set-other l i j a d (eqb-false j i e)) (other (eqb-false j i e))
 
--- a larger G keeps an object's bounds
+-- with a larger G an object stays within its bounds
 object-rises : (l : Locality) (tasks g k : ℕ) → g ≤ k → ObjectBounds l tasks g → ObjectBounds l tasks k
 object-rises l tasks g k h f = record {
   holder-low = f .holder-low;
@@ -121,7 +121,7 @@ module _ (s : State) (task : ℕ) (shaped : Shaped s) (sound : Sound s) (low : t
         (λ q. k .object) (λ n. object-rises (localityOf s o) (s .tasks) (s .shares) (e .shares) (k .rises) (sound .object o g));
   }
 
-  -- rows that leave G, Last, Seen and Took
+  -- rows that leave G, Last, Seen and Took unchanged
   last-stays : LastBounds (s .last) (s .tasks) (s .shares) (set (s .done) task (numberNow s task))
   last-stays = record {
     placed = sound .last .placed;

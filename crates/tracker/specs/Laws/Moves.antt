@@ -1,5 +1,5 @@
--- What an access may do to Done, Seen, Took and Last (document 01, "other effects") so that other objects stay covered. It is
--- stated of any entry and any two states: an entry that touches no object keeps them all.
+-- What an access may do to Done, Seen, Took and Last (document 01, "other effects") so that other objects stay covered. It is stated for
+-- any entry and any two states, so it also applies to an entry that touches no object.
 use mathlib.Core.Path.{_≡_, refl}
 use mathlib.Core.List.{_∷_}
 use mathlib.Core.Bool.{Bool, false}
@@ -16,12 +16,12 @@ use Rattle.tracker.specs.declared.Locality.{Locality}
 use Rattle.tracker.specs.declared.Locality.the-variants.{ReadShared}
 use Rattle.tracker.specs.declared.State.{State}
 
--- Seen of a task moves only if it is the accessing task, and the access awaits Last.
+-- Seen of a task changes only if it is the accessing task and the access is ordered after Last.
 pub data SeenMoves (e : Entry) (h : History) (s after : State) (task : ℕ) : Type 0 where
   seen-stays : seenOf after task ≡ seenOf s task → SeenMoves e h s after task
   seen-moves : task ≡ e .task → Awaits e h (s .last) → SeenMoves e h s after task
 
--- Last moves only to the access itself, which then awaits the Last before it.
+-- Last changes only to the access itself, which is then ordered after the Last before it.
 pub data LastMoves (e : Entry) (h : History) (s after : State) : Type 0 where
   last-stays : after .last ≡ s .last → LastMoves e h s after
   last-moves : after .last .task ≡ e .task → count (e .task) h < after .last .number → Awaits e h (s .last) → LastMoves e h s after
@@ -34,7 +34,7 @@ pub record Moves (e : Entry) (h : History) (s after : State) : Type 0 where
   pub seen : (task : ℕ) → SeenMoves e h s after task
   pub last : LastMoves e h s after
 
--- the accessing task's Done covers all that its access follows, and the access
+-- the accessing task's Done covers everything its access comes after, and the access itself
 pub done-covers : {e : Entry} {h : History} {s after : State} {test : Act → Bool} → Moves e h s after → Follows e h test
     → Covers (e ∷ h) (doneAt after (e .task)) test
 done-covers {e} {after} m f = covers-own (doneAt after (e .task)) refl (m .done-own) f

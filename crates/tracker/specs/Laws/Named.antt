@@ -1,4 +1,4 @@
--- What the written orderings of an accepted access name; and that row 10 names every other task, whether or not it read.
+-- What the written orderings of an accepted access name; and row 10 names every other task, whether or not it read.
 use mathlib.Core.Bool.{Bool}
 use mathlib.Core.List.{[], _∷_, List·Memᴰ, List·Memᴰ·not-nil, List·Memᴰ·cases-cons, List·Memᴰ·eq-of-singleton}
 use mathlib.Core.Logic.{⊎-elim}
@@ -24,7 +24,7 @@ pub record Names (s : State) (task : ℕ) (p : Position) : Type 0 where
   pub reached : p .number ≤ doneOf s (p .task)
 
 module _ (s : State) (sound : Sound s) (l : Locality) (holder-low : holderOf l < s .tasks) where
-  -- of an ordering of the table, written or not
+  -- the same for an ordering of the table, written or not
   pub record Points (p : Position) : Type 0 where
     pub task-low : 0 < p .number → p .task < s .tasks
     pub reached : p .number ≤ doneOf s (p .task)

@@ -1,5 +1,5 @@
--- One accepted access (document 01, "Transition table"): its entry points back, follows every earlier entry that it
--- conflicts with, and the invariant holds afterwards, of its own object and of the others.
+-- One accepted access (document 01, "Transition table"): its entry points back, it comes after every earlier entry it conflicts with, and
+-- the invariant holds afterwards, for its own object and for the others.
 use mathlib.Core.Bool.{Bool, true, false}
 use mathlib.Core.List.{List, _∷_, List·Memᴰ}
 use mathlib.Core.Path.{_≡_, refl, sym, _∙_}
@@ -34,7 +34,7 @@ use Rattle.tracker.specs.Laws.EachRow.{conflicting, RowKeeps, row-keeps}
 use Rattle.tracker.specs.Laws.Accesses.{actOf, trackedEntry}
 use Rattle.tracker.specs.declared.State.{State}
 
--- an access touches its object alone, writes only as a write, and conflicts as its sort does
+-- an access touches only its object, writes only if it is a write, and conflicts by its sort
 touches-own : (object : ℕ) (write : Bool) (value held c : ℕ) → touches c (actOf object write value held) ≡ eqb object c
 touches-own object true value held c = refl
 touches-own object false value held c = refl
@@ -92,7 +92,7 @@ module _ (s : State) (task object : ℕ) (write : Bool) (value held : ℕ) where
     tasks-after here = rw (next-tasks s task object write) (a .task-low)
     tasks-after (there b) = rw (next-tasks s task object write) (i .tasks-low b)
 
-    -- the access's own object by its row, and the others since it does not touch them
+    -- the access's own object by its row, and the others because it does not touch them
     covered-after : (other : ℕ) → other < s .objects → Covered (entry ∷ h) after other (localityOf after other)
     covered-after other low = elim (ℕ-discrete other object) [
       | yes p ↦ rw (p, next-locality s task object write (i .shaped) (omega (arith, a .object-low, i .sound .objects-fit))) (by-row .covered)

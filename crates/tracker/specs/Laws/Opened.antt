@@ -19,7 +19,7 @@ use Rattle.tracker.specs.declared.Locality.the-variants.{WriteExclusive}
 use Rattle.tracker.specs.declared.ObjectRecord.{ObjectRecord}
 use Rattle.tracker.specs.Opened.{ownedRecords, openedState}
 
--- what the number table asks of an opening: 1, 2 and 4
+-- what the number table requires of an opening: 1, 2 and 4
 pub record Opens (tasks objects : ℕ) (owners : List ℕ) : Type 0 where
   pub some-task : 1 ≤ tasks
   pub tasks-fit : tasks ≤ maxTasks
@@ -64,7 +64,7 @@ pub opened-objects : (tasks objects : ℕ) (owners : List ℕ) → openedState t
 unfolding openedState
 opened-objects tasks objects owners = refl
 
--- no access is made yet
+-- no access has been made yet
 pub opened-done : (tasks objects : ℕ) (owners : List ℕ) (task : ℕ) → doneOf (openedState tasks objects owners) task ≡ 0
 unfolding openedState
 opened-done tasks objects owners task = zeros-at maxTasks task

@@ -1,4 +1,4 @@
--- Soundness as the calls find it: all but the objects first, then the objects one by one.
+-- Soundness as the calls test it: first everything except the objects, then the objects one by one.
 use mathlib.Core.Bool.{Bool, true, false, _&&_, and-true, and-false, and-eq-true-iff}
 use mathlib.Core.Path.{_≡_, sym, ap, _∙_}
 use Prim.Native.Nat.{ℕ, _+_, _≤_, _<_, min}
@@ -14,7 +14,7 @@ use Rattle.tracker.specs.Sound.{lastSound, tasksSound, objectSoundAt, so
 use Rattle.tracker.specs.declared.Counters.{Counters}
 use Rattle.tracker.specs.declared.State.{State}
 
--- all but the objects
+-- everything except the objects
 unfoldable pub countersSound : Counters → Bool
 countersSound m =
     isWithin 1 maxTasks (m .tasks) && isWithin 1 maxObjects (m .objects)
@@ -30,7 +30,7 @@ counters-low m e =
     (within-facts 1 maxTasks _ (b .0) .1, within-facts 1 maxObjects _ (b .1) .1)
 
 module _ (s : State) where
-  -- what is found after n objects
+  -- the result after n objects
   unfoldable pub soundTo : ℕ → Bool
   soundTo n = countersSound (countersOf s) && allBelow (objectSoundAt s) n
 
@@ -42,7 +42,7 @@ module _ (s : State) where
   unfolding soundTo allBelow
   scan-more n e = rw (add-one, e, and-true)
 
-  -- an object that is not sound ends the scan
+  -- an unsound object ends the scan
   pub scan-bad : (n : ℕ) → n < s .objects → objectSoundAt s n ≡ false → soundOf s ≡ false
   unfolding soundOf countersSound
   scan-bad n h e = rw (all-fails (objectSoundAt s) (s .objects) n h e) (and-false (countersSound (countersOf s)))
@@ -55,7 +55,7 @@ module _ (s : State) where
     | fails p ↦ rw p
   ]
 
-  -- the scan goes up to a number that is told by the counters: what is below it has a record and is an object, and there the scan is over
+  -- the counters give the number of objects to scan: each one below it has a record and is below N, and after it the scan is complete
   module _ (m : Counters) (e : m ≡ countersOf s) (n : ℕ) (q : n ≡ min (m .objects) maxObjects) where
     pub scan-low : (i : ℕ) → i < n → (i < maxObjects) × (i < s .objects)
     scan-low i h = let o = ap (λ (x : Counters). x .objects) e in (omega arith, omega arith)

@@ -4,7 +4,7 @@ use lib.ListN.{length}
 use Rattle.codec.specs.Limit.{maxTasks, maxObjects}
 use Rattle.tracker.specs.declared.State.{State}
 
--- the lists' lengths, which the state's type fixes
+-- the lists' lengths, which are fixed by the state's type
 pub record Shaped (s : State) : Type 0 where
   pub records : length (s .records) ≡ maxObjects
   pub done : length (s .done) ≡ maxTasks

@@ -25,7 +25,7 @@ sum-past xs t a zero h = refl
 sum-past xs t a (suc n) h =
     rw (sum-past xs t a n (omega arith), getD-set-other xs t n a 0 (λ (e : n ≡ t). omega arith))
 
--- one entry below the bound rises by one, and the sum with it
+-- if one entry below the bound grows by one, so does the sum
 pub sum-rises : (xs : List ℕ) (t n : ℕ) → t < length xs → t < n → sumOf (set xs t (getD xs t 0 + 1)) n ≡ sumOf xs n + 1
 unfolding sumOf
 sum-rises xs t zero l h = absurd (let z : ⊥ = omega arith in z)
@@ -35,7 +35,7 @@ sum-rises xs t (suc n) l h =
     (λ (k : t < n). rw (sum-rises xs t n l k, getD-set-other xs t n (getD xs t 0 + 1) 0 (λ (e : n ≡ t). omega arith)) (omega arith))
     (eq-or-lt-of-le (le-of-suc-le-suc h))
 
--- counts of 65,535 at most have a sum that fits 32 bits
+-- counts of at most 65,535 have a sum that fits 32 bits
 pub sum-bound : (xs : List ℕ) (n : ℕ) → ((i : ℕ) → i < n → getD xs i 0 ≤ maxAccesses) → sumOf xs n ≤ maxAccesses * n
 unfolding sumOf
 sum-bound xs zero h = omega arith

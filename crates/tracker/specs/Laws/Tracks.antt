@@ -1,6 +1,5 @@
--- EVERY LIST OF ACCEPTED ACCESSES, FROM AN OPENING, MAKES A SOUND HISTORY (document 01, "Transition table", "Whole runs").
--- `Tracks` says which state, memory and history accepted accesses lead to, one access at a time; the theorems hold of all of
--- them.
+-- EVERY LIST OF ACCEPTED ACCESSES FROM AN OPENING MAKES A SOUND HISTORY (document 01, "Transition table", "Whole runs"). `Tracks` says
+-- which state, memory and history accepted accesses lead to, one access at a time; the theorems hold for all of them.
 use mathlib.Core.Bool.{Bool, true, false}
 use mathlib.Core.List.{List, [], _∷_}
 use mathlib.Core.Path.{_≡_, sym, _∙_}
@@ -58,7 +57,7 @@ tracks-memory {start} (tracks-opened tasks objects owners o) c = sym (reference-
 tracks-memory {start} (tracks-more {s = s} {memory = memory} {h = h} task object write value t a) c =
     reference-after start h s memory task object write value c (tracks-memory t c)
 
--- a read's entry has the value that its object held
+-- a read's entry has the value of its object
 read-holds : (object : ℕ) (write : Bool) (value held c v : ℕ) (memory : ℕ → ℕ) → held ≡ memory object → actOf object write value held ≡ Act.read c v → v ≡ memory c
 read-holds object true value held c v memory same p = absurd (let z : _≡_ {A = ℕ} 0 1 = cc in omega arith)
 read-holds object false value held c v memory same p = cc
@@ -72,10 +71,10 @@ tracks-sound {start} (tracks-more {s = s} {memory = memory} {h = h} task object 
     (λ c v p. read-holds object write value (memory object) c v (reference start h) (tracks-memory t object) p)
 
 module _ {start : ℕ → ℕ} {s : State} {memory : ℕ → ℕ} {h : History} (t : Tracks start s memory h) where
-  -- Done(S) is how many entries are S's
+  -- Done(S) is the number of S's entries
   pub tracks-done : (task : ℕ) → doneOf s task ≡ count task h
   tracks-done = tracks-invariant t .counts
 
-  -- no entry is of a task that is not below T
+  -- every entry is of a task below T
   pub tracks-tasks : {e : Entry} {g : History} → At e g h → e .task < s .tasks
   tracks-tasks = tracks-invariant t .tasks-low

@@ -1,4 +1,4 @@
--- The table's rows by cases, for proofs: the object's state and the access that each row stands for.
+-- The table's rows by cases, for proofs: each row with the object's state and the access it is for.
 use mathlib.Core.Bool.{Bool, true, false}
 use mathlib.Core.Path.{_≡_, refl}
 use Prim.Native.Nat.{ℕ, _≤_, _<_}

@@ -1,5 +1,5 @@
--- Behind the last step of a recording that is played no task is ready, and each task that has accesses left has its line: what is left of
--- its body reads, since all of it did.
+-- After the last step of a recording no task is ready, and each task that has accesses left has its line: the rest of its body can be
+-- read, because all of it could.
 use mathlib.Core.Path.{_≡_, refl, sym, ap, _∙_}
 use mathlib.Core.Bool.{true, false}
 use mathlib.Core.List.{List, [], _∷_}
@@ -36,7 +36,7 @@ use Rattle.waits.specs.Laws.WaitsEach.{Waiting, wait-each}
 use Rattle.transcript.specs.Told.{afterOf}
 use Rattle.transcript.specs.Laws.Told.{after-sound}
 
--- what is left of a task's body reads, an access for each that is left
+-- the rest of a task's body can be read, with one entry for each access that is left
 record Readable (b : List ℕ) (r : Run) (t : ℕ) : Type 0 where
   pub entries : List Entry
   pub left : Left r b t entries
@@ -91,13 +91,13 @@ module _ (b : List ℕ) where
       (a .1)
       (step-readable x t w (a .0) g)
 
--- a word of 0 names no task
+-- a word of 0 has no task
 no-bit : (t : ℕ) → hasBit 0 t ≡ false
 unfolding hasBit
 no-bit zero = refl
 no-bit (suc t) = no-bit t
 
--- a run of which no task is ready
+-- a run with no ready task
 module _ (b : List ℕ) (r : Run) (s : soundOf r (length b) ≡ true) (z : readyOf r b .word ≡ 0) (g : AllReadable b r) (t : ℕ) (h : t < r .tasks) (l : hasLeft r t ≡ true) where
   not-ready : isReady r b t ≡ false
   not-ready = sym (ready-word r b s .bit t h) ∙ rw z (no-bit t)

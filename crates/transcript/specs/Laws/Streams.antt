@@ -1,4 +1,4 @@
--- Buffers that are long enough get both, others nothing.
+-- Buffers that are long enough get both texts, others nothing.
 use mathlib.Core.Path.{_≡_}
 use mathlib.Core.List.{List}
 use Prim.Native.Nat.{ℕ, _≤_, _<_}

@@ -1,4 +1,4 @@
--- The plan as the code picks it, by cases of the row over what it has gathered; and that it is the table's.
+-- The plan as the code chooses it, by cases of the row over the collected values; and it is the table's.
 use mathlib.Core.Bool.{Bool}
 use mathlib.Core.Path.{_≡_, refl, _∙_}
 use Prim.Native.Nat.{ℕ, _+_}
@@ -18,7 +18,7 @@ use Rattle.tracker.specs.declared.Row.{Row}
 use Rattle.tracker.specs.declared.Row.the-variants.{One, Two, Three, Four, Five, Six, Seven, Eight, Nine, Ten}
 use Rattle.tracker.specs.declared.State.{State}
 
--- the plans, over the entries that they read: rows that change the object alone, and rows 5, 6 and 8
+-- the plans, over the entries they use: rows that change only the object, and rows 5, 6 and 8
 abbrev pub plainPlan : ℕ → Locality → Kept → Position → Plan
 plainPlan row l e first = record {
   row = row;
@@ -79,7 +79,7 @@ planBy Eight l e done took = holdPlan e done
 planBy Nine l e done took = plainPlan 9 (WriteExclusive (e .here .task)) e done
 planBy Ten l e done took = plainPlan 10 (WriteExclusive (e .here .task)) e nowhere
 
--- what the code gathers of the accessing task
+-- what the code collects about the accessing task
 abbrev pub keptOf : State → ℕ → Kept
 keptOf s task = record {
   here = position task (numberNow s task);
@@ -89,7 +89,7 @@ keptOf s task = record {
   last = s .last;
 }
 
--- the plan over what the code gathers is the table's
+-- the plan over the collected values is the table's
 plan-table : (row : Row) (s : State) (task : ℕ) (l : Locality) →
     planBy row l (keptOf s task) (doneAt s (holderOf l)) (tookAt s (holderOf l)) ≡ planned row s task l
 unfolding planned localityAfter effectOf fewOf orderingsOf

@@ -9,7 +9,7 @@ use borrow.Author.Needs.{needs}
 use Rattle.waits.proofs.put_wait.Statement.{statement}
 use Rattle.waits.proofs.put_wait.Tie as tie
 
--- the ordering stands within the bytes
+-- the ordering is within the bytes
 room : (c : tie.Else2) → c .before .before .look-at .result .scan + 8 ≤ length (now (c .before .before .before .before .before .before .before .args .bytes))
 room c = ahead-turn _ _ _ _ _ _ _ (c .before .before .look-at .ensures .judged-to (omega arith)) (c .if2 .left) .room
 

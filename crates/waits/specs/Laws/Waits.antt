@@ -1,4 +1,4 @@
--- How long the text can be, and how the code comes to a task's line.
+-- The length of the text, and how the code makes a task's line.
 use mathlib.Core.Path.{_≡_, refl}
 use mathlib.Core.Bool.{Bool, true, false, cond}
 use mathlib.Core.List.{List, [], _++_}
@@ -41,7 +41,7 @@ unfolding waitsIn
 waits-short b r zero = omega arith
 waits-short b r (suc n) = rw length-append (omega (arith, waits-short b r n, wait-short b r n))
 
--- one task more
+-- one more task
 pub waits-none : (b : List ℕ) (r : Run) → waitsIn b r 0 ≡ []
 unfolding waitsIn
 waits-none b r = refl
@@ -50,7 +50,7 @@ pub waits-on : (b : List ℕ) (r : Run) (t : ℕ) → waitsIn b r (t + 1) ≡ wa
 unfolding waitsIn
 waits-on b r t = rw add-one
 
--- a task whose record, with T, N and the counts done, is what the code has
+-- a task whose record, T, N and accesses done are what the code has
 module _ (b : List ℕ) (r : Run) (t : ℕ) (x : TaskRun) (m : Limits) (dones : List ℕ) (w : OneTask r t x m dones) where
   pub wait-done : x .count ≤ x .done → waitOf b r t ≡ []
   unfolding waitOf

@@ -1,4 +1,4 @@
--- A task that has accesses left and is not ready, and whose next entry reads, has its line.
+-- A task that has accesses left and is not ready, and whose next entry can be read, has its line.
 use mathlib.Core.Path.{_≡_, refl}
 use mathlib.Core.Bool.{Bool, true, false}
 use mathlib.Core.List.{List, [], _∷_}
@@ -19,7 +19,7 @@ use Rattle.pending.specs.Run.{taskAt, doneOf}
 use Rattle.pending.specs.Unmet.{Unmet, first, unmetOf, unmetIn, unmetNext}
 use Rattle.waits.specs.Waits.{waitLine, waitOf}
 
--- an ordering holds it
+-- an ordering holds it up
 record Held (u : Unmet) : Type 0 where
   pub place : ℕ
   pub ordering : Position
@@ -32,7 +32,7 @@ pub record Waiting (b : List ℕ) (r : Run) (t : ℕ) : Type 0 where
   pub unmet : unmetNext r b t ≡ first place ordering
   pub line : waitOf b r t ≡ waitLine t (first place ordering)
 
--- orderings that are not all met have a first that is not
+-- orderings that are not all met have a first unmet one
 some-unmet : (runs : List TaskRun) (at : ℕ) (ps : List Position) → allMet runs ps ≡ false → Held (unmetOf runs at ps)
 unfolding allMet unmetOf
 some-unmet runs at [] h = absurd (let z : _≡_ {A = Bool} true false = h in let y : _≡_ {A = ℕ} 0 1 = cc in omega arith)

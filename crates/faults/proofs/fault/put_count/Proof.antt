@@ -5,31 +5,40 @@ use borrow.Author.Needs.{needs}
 use Rattle.faults.proofs.fault.put_count.Statement.{statement}
 use Rattle.faults.proofs.fault.put_count.Tie as tie
 
-put-number-requires : tie.Need-put-number-requires
-put-number-requires c κs = omega (arith, decimal-short (c .before .before .before .args .n))
+put-noun-requires : tie.Need-put-noun-requires
+put-noun-requires c κs = search needs
+
+slice-aggregate-put-bytes : tie.Need-slice-aggregate-put-bytes
+slice-aggregate-put-bytes c = search needs
 
 put-bytes-requires : tie.Need-put-bytes-requires
-put-bytes-requires c κs = let p = c .before .before .before .put-number .ensures in omega (arith, decimal-short (c .before .before .before .before .before .before .before .args .n), p .behind, same-room p)
+put-bytes-requires c κs = search needs
 
 put-field-requires : tie.Need-put-field-requires
 put-field-requires c κs =
-    let a = c .before .before .before .before .before .before .before .before .before .before .before .args in
-    let p = c .before .before .before .before .before .before .before .put-number .ensures in
+    let a = c .before .before .before .before .before .before .before .before .before .before .before .before .args in
+    let p = c .before .before .before .before .before .before .before .before .put-noun .ensures in
     let q = c .before .before .before .put-bytes .ensures in
-    omega (arith, decimal-short (a .n), decimal-short (a .k), field-length (a .k) 10, p .behind, same-room p, q .behind, same-room q)
+    omega (arith, decimal-short (a .k), field-length (a .k) 10, p .1, same-room (p .0), q .behind, same-room q)
 
 same-length : tie.Need-same-length
 same-length c = search needs
 
 returns : tie.Need-returns
 returns c =
-    let a = c .before .before .before .before .before .before .before .before .before .before .before .before .before .before .args in
-    let p = c .before .before .before .before .before .before .before .before .before .before .put-number .ensures in
+    let a = c .before .before .before .before .before .before .before .before .before .before .before .before .before .before .before .args in
+    let p = c .before .before .before .before .before .before .before .before .before .before .before .put-noun .ensures in
     let q = c .before .before .before .before .before .before .put-bytes .ensures in
     let r = c .before .before .put-field .ensures in
-    (joined (joined p q) r, omega (arith, decimal-short (a .n), decimal-short (a .k), field-length (a .k) 10, p .behind, q .behind, r .behind))
+    (joined (joined (p .0) q) r, omega (arith, decimal-short (a .k), field-length (a .k) 10, p .1, q .behind, r .behind))
 
 pub put-count-spec : {M : Type 1} → statement M
 put-count-spec =
     tie.close
-    (tie.spec put-number-requires put-bytes-requires put-field-requires same-length returns)
+    (tie.spec
+    put-noun-requires
+    slice-aggregate-put-bytes
+    put-bytes-requires
+    put-field-requires
+    same-length
+    returns)

@@ -15,7 +15,7 @@ Inv-loop bytes from at dones place₀ place = (m : Limits) (start end : ℕ) →
 abbrev μ-loop : tie.MeasureT-loop
 μ-loop bytes from at dones place₀ place = at - place
 
--- the ordering that stands there, of any group and of the one that is known
+-- the ordering at this place, for any group and for the known one
 turn : (c : tie.In-loop Inv-loop μ-loop) →
     let a = c .before .before .before .args in
     (m : Limits) (start end : ℕ) → Ahead m (now (a .bytes)) (now (a .dones)) start end (a .from) (a .at)

@@ -8,7 +8,7 @@ use borrow.Author.Needs.{needs}
 use Rattle.pending.proofs.next.look_at.Statement.{statement}
 use Rattle.pending.proofs.next.look_at.Tie as tie
 
--- the group that was read, with all of it ahead, and how far it is judged
+-- the group that was read, and how far the scan got in it
 ahead : (c : tie.After-known-told) →
     let a = c .before .before .before .before .before .args in
     Ahead (a .limits) (now (a .bytes)) (now (a .dones)) (a .from) (a .end) (a .from) (c .before .f .given .0 .1 .0)

@@ -7,7 +7,7 @@ use Rattle.playback.specs.Laws.AlikeCode.{both-ended, first-away, second
 use Rattle.playback.proofs.alike.same_outcome.Statement.{statement}
 use Rattle.playback.proofs.alike.same_outcome.Tie as tie
 
--- an outcome that is known, in the three parts that are asked
+-- a known outcome, in the three parts that are needed
 parts : {x y : Comparison} → x ≡ y → (x .answer ≡ y .answer) × ((x .first ≡ y .first) × (x .second ≡ y .second))
 parts e = (ap (λ (o : Comparison). o .answer) e, (ap (λ (o : Comparison). o .first) e, ap (λ (o : Comparison). o .second) e))
 

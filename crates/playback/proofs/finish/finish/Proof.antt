@@ -24,7 +24,7 @@ abbrev μ-loop : tie.MeasureT-loop
 μ-loop run bytes memory₀ places₀ ends dones₀ counts scans₀ ats₀ steps₀ memory places dones scans ats steps =
     leftOver (runOf (run .tasks) (run .objects) places ends dones counts)
 
--- the play at first
+-- the play at the start
 abbrev start : tie.Start Inv-loop μ-loop → Play
 start c = record { run = c .args .run; memory = now (c .args .memory); steps = 0 }
 
@@ -40,7 +40,7 @@ found : (c : tie.After-known-told Inv-loop μ-loop) →
     SteppedTo (here (c .before .before .before .before .before .before .before .before .before .before)) (now (c .before .before .before .before .before .before .before .before .before .before .before .before .before .before .before .before .before .before .args .bytes)) (g .0) (g .1 .0) (after (c .before .before .before))
 found c = let l = c .before .before .before .lowest .ensures in found-next _ _ (c .before .before .before .before .before .before .before .before .before .before .loop .inv .0 .sound) _ (after (c .before .before .before)) _ _ (l .0) (l .1 .0) (c .before .n .given .1)
 
--- the play behind its step
+-- the play after its step
 on : (c : tie.After-perform Inv-loop μ-loop) →
     Going (now (c .before .before .before .before .before .before .before .before .before .before .before .before .before .before .before .before .before .before .before .before .args .bytes)) (start (c .before .before .before .before .before .before .before .before .before .before .before .before .before .before .before .before .before .before .before .before)) (record { run = after (c .before .before .before .before .before); memory = c .perform .last .1 .0; steps = c .before .before .before .before .before .before .before .before .before .before .before .before .loop .steps + 1 })
 on c = let f = found (c .before .before) in going-on _ _ _ (c .before .before .before .before .before .before .before .before .before .before .before .before .loop .inv .2) _ _ _ (f .is) _ _ (f .run) (c .perform .ensures .1)

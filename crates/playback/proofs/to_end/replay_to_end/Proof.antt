@@ -6,7 +6,7 @@ use borrow.Author.Needs.{needs}
 use Rattle.playback.proofs.to_end.replay_to_end.Statement.{statement}
 use Rattle.playback.proofs.to_end.replay_to_end.Tie as tie
 
--- an outcome that is known, in the two parts that are asked
+-- a known outcome, in the two parts that are needed
 parts : {x y : EndOutcome} → x ≡ y → (x .answer ≡ y .answer) × (x .memory ≡ y .memory)
 parts e = (ap (λ (o : EndOutcome). o .answer) e, ap (λ (o : EndOutcome). o .memory) e)
 

@@ -1,6 +1,6 @@
--- `step_in_place` meets its contract: a walk of its MIR, by hand, since no reference to a struct is covered. The run's borrow is opened and
--- its record copied out, `step` is called with it and with the memory's borrow, which is given up to it; the answer's run is stored back,
--- the borrow is closed at it, and `shown` gives the answer. Assumes nothing.
+-- `step_in_place` meets its contract: a step-by-step proof over its MIR, by hand, because references to structs are not covered by the
+-- kit. The run's borrow is opened and its record copied out; `step` is called with it and with the memory's borrow, which it takes; the
+-- answer's run is stored back, the borrow is closed at it, and `shown` gives the answer. Assumes nothing.
 use mathlib.Core.Path.{_≡_, refl, ap, _∙_}
 use Prim.Native.Nat.{ℕ, _<_, _^_}
 use mathlib.Core.List.{[], _∷_, List}
@@ -84,7 +84,7 @@ abbrev stepped : Stepped → Val
 stepped r = only (LL.vals S.the-type S′.the-laws r)
 
 module _ {M : Type 1} (𝓤 : URA M) (H : Heap 𝓤) (A : Atoms 𝓤) (at-mem : Memory → SProp 𝓤) (run : Routine → Fun 𝓤) where
-  -- the contracts that the proof cites
+  -- the contracts that the proof uses
   abbrev Stp : Contract 𝓤
   Stp = tripleOf 𝓤 H A step.signature (step.spec 𝓤 H A at-mem run)
 

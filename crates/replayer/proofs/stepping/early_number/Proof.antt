@@ -13,7 +13,7 @@ use Rattle.replayer.specs.StepOf.{earlyNumber}
 use Rattle.replayer.proofs.stepping.early_number.Statement.{statement}
 use Rattle.replayer.proofs.stepping.early_number.Tie as tie
 
--- the tests that passed, as equations
+-- the checks that passed, as equations
 sound-so : (c : tie.Else1) → soundOf (c .before .before .args .t1) (c .before .before .args .size) ≡ true
 sound-so c = sym (c .before .sound .ensures) ∙ not-false _ (c .if1 .left)
 

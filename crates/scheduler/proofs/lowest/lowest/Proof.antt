@@ -29,7 +29,7 @@ Inv-loop tasks objects bytes places₀ ends dones₀ counts scans₀ ats₀ t₀
 abbrev μ-loop : tie.MeasureT-loop
 μ-loop tasks objects bytes places₀ ends dones₀ counts scans₀ ats₀ t₀ places dones scans ats t = tasks - t
 
--- the run that the columns hold, and its soundness
+-- the run that the columns represent, and its soundness
 abbrev run : tie.At-loop Inv-loop μ-loop → Run
 run c = let a = c .before .before .args in runOf (a .tasks) (a .objects) (c .loop .places) (now (a .ends)) (c .loop .dones) (now (a .counts))
 
@@ -47,7 +47,7 @@ one c = let a = c .before .before .before .args in
     let l = c .before .loop in
     columns-one (a .tasks) (a .objects) (l .places) (now (a .ends)) (l .dones) (now (a .counts)) (l .inv .0 .dones-all) (l .t) (few c)
 
--- what the visit found, and the next step where the task is open
+-- what `visit` found, and the next step if the task may go
 visited : (c : tie.After-visit Inv-loop μ-loop) →
     Visited (run (c .before .before .before .before .before .before .before .before .before)) (now (c .before .before .before .before .before .before .before .before .before .before .before .args .bytes)) (c .before .before .before .before .before .before .before .before .before .loop .t) (c .visit .last .1 .1 .1 .1 .0) (c .visit .last .1 .1 .1 .1 .1 .0) (c .visit .result)
 visited c = c .visit .ensures (run (c .before .before .before .before .before .before .before .before .before)) (one (c .before .before .before .before .before .before .before .before)) (c .before .before .before .before .before .before .before .before .before .loop .inv .0 .noted)

@@ -8,7 +8,7 @@ use borrow.Author.Needs.{needs}
 use Rattle.scheduler.proofs.visit.visit.Statement.{statement}
 use Rattle.scheduler.proofs.visit.visit.Tie as tie
 
--- how far the entry is judged that a note is of
+-- how far the entry of a note has been tested
 resumed : (c : tie.After-first-unmet) →
     let a = c .before .before .before .before .before .before .before .before .args in
     Reached (a .limits) (now (a .bytes)) (now (a .dones)) (a .x .place) (a .x .end) (c .first-unmet .result) (getD (now (a .ats)) (a .limits .own) 0)

@@ -9,7 +9,7 @@ use borrow.Author.Needs.{needs}
 use Rattle.transitions.proofs.sound.counters_sound.Statement.{statement}
 use Rattle.transitions.proofs.sound.counters_sound.Tie as tie
 
--- what the tests on the way have shown
+-- what the tests so far have shown
 tasks-in : (c : tie.Else1) → isWithin 1 maxTasks (c .before .before .before .before .before .before .args .counters .tasks) ≡ true
 tasks-in c = sym (c .before .within .ensures) ∙ not-false _ (c .if1 .left)
 

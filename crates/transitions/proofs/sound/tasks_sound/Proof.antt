@@ -23,7 +23,7 @@ Inv-loop tasks shares done seen took n sum₀ i₀ sum i =
 abbrev μ-loop : tie.MeasureT-loop
 μ-loop tasks shares done seen took n sum₀ i₀ sum i = n - i
 
--- the task at hand passed its test
+-- the current task passed its test
 passed : (c : tie.Else1 Inv-loop μ-loop) →
     let a = c .before .before .before .before .args in
     taskSoundAt (a .t3) (a .t4) (a .t5) (a .shares) (c .before .before .before .loop .i) ≡ true
