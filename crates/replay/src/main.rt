@@ -10,18 +10,18 @@ fn main() {
     let asked = input::from_arguments(
         b"replay",
         b"a recording",
-        b"Plays a recording, the lowest ready task first.
+        b"Plays a recording, always the lowest ready task next.
 
-Reads FILE, or standard input without FILE and for -: a recording of at most 65,536 bytes.
+Reads FILE; with no FILE, or with -, standard input. A recording has at most 65,536 bytes; more give: long.
 
-Writes on standard output a line for each step: task, number of the access, R or W, object, value.
-Then end or stuck with the number of steps, then memory with its values. Bytes that are not a
-valid recording give refused, a number and the offset of the record that fails. More than 65,536 bytes give long.
+Writes to standard output one line for each step: task, number of the access, R or W, object, value.
+Then end or stuck with the number of steps, then memory with its values. If the input is not a valid
+recording it writes refused, a number, and the offset of the record that failed.
 
-Writes on standard error what each task waits for where the play is stuck, and what could not be
-read or written.
+Writes to standard error what each task waits for if the play is stuck, and what could not be read or
+written.
 
-There is no exit status: whether all went well is seen from what is written.
+There is no exit status: look at what was written.
 ",
         &mut bytes,
     );
