@@ -1,4 +1,4 @@
--- The lines of a text that ask for accesses: all after the third, without the skipped lines.
+-- The lines of a text that ask for accesses: of the lines that are not skipped, those after the third.
 use mathlib.Core.List.{List}
 use Prim.Native.Nat.{ℕ}
 use lib.ListN.{drop}
