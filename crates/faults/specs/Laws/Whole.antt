@@ -1,6 +1,6 @@
 -- A line is reported as wrong exactly if it is not accepted.
-use mathlib.Core.Path.{_≡_, refl, _∙_, sym}
-use mathlib.Core.Bool.{Bool, true, false, _&&_, _||_}
+use mathlib.Core.Path.{_≡_, refl, ap, _∙_, sym}
+use mathlib.Core.Bool.{Bool, false, _&&_, _||_, and-false, and-true, or-false, and-assoc, and-comm}
 use mathlib.Core.List.{List, [], _∷_, map}
 use Prim.Native.Nat.{ℕ, suc, _+_, _<_}
 use native.Mathlib.Omega.{arith}
@@ -38,24 +38,8 @@ words-filled : (l : List ℕ) → Filled (wordsIn l)
 unfolding wordsIn
 words-filled l = filled-all (piecesOf l)
 
--- combining tests
-and-false : (a : Bool) → (a && false) ≡ false
-and-false true = refl
-and-false false = refl
-
-and-true : (a : Bool) → (a && true) ≡ a
-and-true true = refl
-and-true false = refl
-
-or-false : (a : Bool) → (a || false) ≡ a
-or-false true = refl
-or-false false = refl
-
 and-swap : (a b c : Bool) → (a && (b && c)) ≡ (b && (a && c))
-and-swap true true c = refl
-and-swap true false c = refl
-and-swap false true c = refl
-and-swap false false c = refl
+and-swap a b c = sym (and-assoc a b c) ∙ ap (λ (x : Bool). x && c) (and-comm a b) ∙ and-assoc b a c
 
 -- reading one more word
 module _ (kind : Kind) (n : ℕ) (e : Expected) (k : ℕ) where

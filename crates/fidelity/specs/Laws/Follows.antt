@@ -40,7 +40,7 @@ entries-more : (m : Limits) (es : List FileEntry) (e : FileEntry) → EntriesIn 
 entries-more m [] e i j = (j, tt)
 entries-more m (x ∷ es) e i j = (i .0, entries-more m es e (i .1) j)
 
--- a task's body has as many entries as the history has for that task
+-- the box after some calls, and the history of the accepted accesses
 pub record Follows (start : ℕ → ℕ) (tasks objects : ℕ) (b : Box) (h : History) : Type 0 where
   pub tracks : Tracks start (b .state) (λ c. getD (b .memory) c 0) h
   pub tasks-are : b .state .tasks ≡ tasks

@@ -1,10 +1,10 @@
 -- The replay's side of demand 3: every list of steps over bytes that record a history, by what is proved about replaying the history.
-use mathlib.Core.Bool.{Bool, true, false}
+use mathlib.Core.Bool.{true, false}
 use mathlib.Core.List.{List}
 use mathlib.Core.Logic.{_↔_}
 use mathlib.Core.Option.{some}
-use mathlib.Core.Path.{_≡_, refl, sym, ap, _∙_, fun-ext}
-use Prim.Native.Nat.{ℕ, zero, suc, _+_, _≤_, _<_}
+use mathlib.Core.Path.{_≡_, sym, ap, _∙_, fun-ext}
+use Prim.Native.Nat.{ℕ, suc, _≤_, _<_}
 use native.Mathlib.Omega.{arith}
 use native.Mathlib.Decide.{decLt}
 use borrow.Author.Tests.{eqb-false, le-ltb}
@@ -28,7 +28,9 @@ use Rattle.replayer.specs.Laws.ReadyOf.{ReadySet, ready-word}
 use Rattle.replayer.specs.ReadyOf.{isReady as isReadyBy, readyOf}
 use Rattle.pending.specs.Run.{taskAt}
 use Rattle.replayer.specs.Laws.StepOf.{refused-stays}
-use Rattle.replayer.specs.Word.{wordOf, hasBit}
+use Rattle.replayer.specs.Word.{hasBit}
+use Rattle.replayer.specs.Laws.Word.{zero-bit}
+use Rattle.scheduler.specs.Laws.Finish.{ready-word-zero}
 use Rattle.fidelity.specs.Bench.{Bench, benchOf, answerOf, stepped, steppedAll, takes as takesBy, tally as tallyBy, tallyOf as tallyOfBy, AllTaken as AllTakenBy}
 use Rattle.fidelity.specs.Laws.Matches.{Matches}
 use Rattle.fidelity.specs.Laws.Sim.{Sim, sim-ready}
@@ -36,17 +38,6 @@ use Rattle.fidelity.specs.Laws.SimStep.{Alike, sim-step}
 use Rattle.fidelity.specs.Laws.SimRun.{sim-run, tally-same, tally-of-same, all-taken-same}
 use Rattle.fidelity.specs.Laws.SimStart.{holds, sim-start}
 use Rattle.fidelity.specs.Statement.{Shows}
-
--- a word is 0 exactly when no bit is set
-no-bit : (t : ℕ) → hasBit 0 t ≡ false
-unfolding hasBit
-no-bit zero = refl
-no-bit (suc t) = no-bit t
-
-none-set : (f : ℕ → Bool) (i n : ℕ) → ((t : ℕ) → t < i + n → f t ≡ false) → wordOf f i n ≡ 0
-unfolding wordOf
-none-set f i zero e = refl
-none-set f i (suc n) e = rw (e i (omega arith), none-set f (suc i) n (λ t l. e t (omega arith)))
 
 act-of : {r s : Reply} → some r ≡ some s → r .act ≡ s .act
 act-of q = cc
@@ -131,10 +122,9 @@ module _ (start : ℕ → ℕ) (h : History) (bytes : List ℕ) (p : Parsed) (m 
   never-more steps = rw (counts-same steps) (ideal .tally-bounded steps)
 
   word-none : (steps : List ℕ) → ((t : ℕ) → Ready h (after start h steps .done) t → ⊥) → readyOf (steppedAll bytes first steps .run) bytes .word ≡ 0
-  unfolding readyOf
-  word-none steps idle = rw (sim steps .sound) (none-set (isReadyBy (steppedAll bytes first steps .run) bytes) 0 (steppedAll bytes first steps .run .tasks) each)
+  word-none steps idle = ready-word-zero (steppedAll bytes first steps .run) bytes (sim steps .sound) each
     where
-      each : (t : ℕ) → t < 0 + steppedAll bytes first steps .run .tasks → isReadyBy (steppedAll bytes first steps .run) bytes t ≡ false
+      each : (t : ℕ) → t < steppedAll bytes first steps .run .tasks → isReadyBy (steppedAll bytes first steps .run) bytes t ≡ false
       each t l = elim (split (isReadyBy (steppedAll bytes first steps .run) bytes t)) [
         | fails q ↦ q
         | passes q ↦ absurd (idle t (ideal .test-tells-ready steps t .0
@@ -145,7 +135,7 @@ module _ (start : ℕ → ℕ) (h : History) (bytes : List ℕ) (p : Parsed) (m 
   stops-at-end steps = rw (counts-same steps) (
     λ q. ideal .stops-at-end steps .0 (λ t r.
         let x : hasBit (readyOf (steppedAll bytes first steps .run) bytes .word) t ≡ true = word-ready steps t .1 (rw (done-same steps) r) in
-        never (hasBit 0 t) (rw q at x) (no-bit t)),
+        never (hasBit 0 t) (rw q at x) (zero-bit t)),
     λ q. word-none steps (ideal .stops-at-end steps .1 q),
   )
 

@@ -22,7 +22,7 @@ module _ (o : Opening) (asked : List Asked) (outs : ℕ → List ℕ) (memory : 
   matches : Matches (startOf o) (recorded o asked) (recordingOf o asked outs) (parsedBy o asked)
   matches = box-matches o (a .opened) asked outs (a .packed)
 
-  -- two lists of the same length with equal entries are equal
+  -- when all accesses are done, the replay's memory is the box's
   ends-equal : (steps : List ℕ) → tally (recordingOf o asked outs) (benchOf (recordingOf o asked outs) memory) steps ≡ length (recorded o asked)
       → after o asked outs memory steps .memory ≡ lastBox o asked .memory
   ends-equal steps e =

@@ -39,12 +39,13 @@ unfolding wordOf
 word-fits f i zero = omega arith
 word-fits f i (suc n) = rw pow-suc (omega (arith, word-fits f (suc i) n, bit-low (f i)))
 
--- bit t of the word is the test of task i + t, for each of the n tasks
-zero-bit : (t : ℕ) → hasBit 0 t ≡ false
+-- the word 0 has no bit set
+pub zero-bit : (t : ℕ) → hasBit 0 t ≡ false
 unfolding hasBit
 zero-bit zero = refl
 zero-bit (suc t) = zero-bit t
 
+-- bit t of the word is the test of task i + t, for each of the n tasks
 pub word-bit : (f : ℕ → Bool) (i n t : ℕ) → t < n → hasBit (wordOf f i n) t ≡ f (i + t)
 unfolding hasBit
 word-bit f i zero t h = absurd (omega arith)

@@ -35,7 +35,7 @@ sum-rises xs t (suc n) l h =
     (λ (k : t < n). rw (sum-rises xs t n l k, getD-set-other xs t n (getD xs t 0 + 1) 0 (λ (e : n ≡ t). omega arith)) (omega arith))
     (eq-or-lt-of-le (le-of-suc-le-suc h))
 
--- counts of at most 65,535 have a sum that fits 32 bits
+-- n counts of at most 65,535 each have a sum of at most n times that
 pub sum-bound : (xs : List ℕ) (n : ℕ) → ((i : ℕ) → i < n → getD xs i 0 ≤ maxAccesses) → sumOf xs n ≤ maxAccesses * n
 unfolding sumOf
 sum-bound xs zero h = omega arith

@@ -1,9 +1,9 @@
 -- After the last step of a recording no task is ready, and each task that has accesses left has its line: the rest of its body can be
 -- read, because all of it could.
-use mathlib.Core.Path.{_≡_, refl, sym, ap, _∙_}
+use mathlib.Core.Path.{_≡_, sym, ap, _∙_}
 use mathlib.Core.Bool.{true, false}
 use mathlib.Core.List.{List, [], _∷_}
-use Prim.Native.Nat.{ℕ, zero, suc, _+_, _<_}
+use Prim.Native.Nat.{ℕ, _+_, _<_}
 use native.Mathlib.Decide.{ℕ-discrete}
 use native.Mathlib.Omega.{arith}
 use lib.ListN.{length, getD}
@@ -27,7 +27,7 @@ use Rattle.pending.specs.Sound.{soundOf}
 use Rattle.pending.specs.Laws.Sound.{sound-facts}
 use Rattle.replayer.specs.StepOf.{stepOf}
 use Rattle.replayer.specs.Laws.StepOf.{Taken, taken, turned, step-goes, step-keeps}
-use Rattle.replayer.specs.Word.{hasBit}
+use Rattle.replayer.specs.Laws.Word.{zero-bit}
 use Rattle.scheduler.specs.Finish.{Play}
 use Rattle.scheduler.specs.Laws.Finish.{Playing}
 use Rattle.scheduler.specs.Schedule.{scheduleOf, steppedBy, playedBy}
@@ -91,16 +91,10 @@ module _ (b : List ℕ) where
       (a .1)
       (step-readable x t w (a .0) g)
 
--- a word of 0 has no task
-no-bit : (t : ℕ) → hasBit 0 t ≡ false
-unfolding hasBit
-no-bit zero = refl
-no-bit (suc t) = no-bit t
-
 -- a run with no ready task
 module _ (b : List ℕ) (r : Run) (s : soundOf r (length b) ≡ true) (z : readyOf r b .word ≡ 0) (g : AllReadable b r) (t : ℕ) (h : t < r .tasks) (l : hasLeft r t ≡ true) where
   not-ready : isReady r b t ≡ false
-  not-ready = sym (ready-word r b s .bit t h) ∙ rw z (no-bit t)
+  not-ready = sym (ready-word r b s .bit t h) ∙ rw z (zero-bit t)
 
   waits-so : (entries : List Entry) → Left r b t entries → taskAt (r .runs) t .done + length entries ≡ taskAt (r .runs) t .count → Waiting b r t
   waits-so [] k c = absurd (omega (arith, c, ltb-true (taskAt (r .runs) t .done) (taskAt (r .runs) t .count) l))
