@@ -1,5 +1,6 @@
 pub mod Bench
 pub mod Box
+pub mod Fence
 pub mod Filed
 pub mod RunA
 pub mod Statement

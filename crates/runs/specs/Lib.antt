@@ -1,5 +1,6 @@
 pub mod Bytes
 pub mod Calls
+pub mod Fences
 pub mod Rows
 pub mod Table
 pub mod Whole

@@ -32,12 +32,16 @@ pub record Tracked : Type 0 where
 abbrev pub tracked : ℕ → List Position → Tracked
 tracked row orderings = record { row = row; orderings = orderings }
 
--- the accesses one after another, each from the state left by the one before
-unfoldable pub trackedAll : State → List Access → List Tracked
-trackedAll s [] = []
-trackedAll s (a ∷ rest) =
+-- the accesses one after another, each from the state that `next` gives for the one before
+unfoldable pub trackedBy : (State → ℕ → ℕ → Bool → State) → State → List Access → List Tracked
+trackedBy next s [] = []
+trackedBy next s (a ∷ rest) =
     tracked (numberOf (rowAt s (a .task) (a .object) (a .write))) (writtenOf s (a .task) (a .object) (a .write))
-    ∷ trackedAll (stateAfter s (a .task) (a .object) (a .write)) rest
+    ∷ trackedBy next (next s (a .task) (a .object) (a .write)) rest
+
+-- by the table
+abbrev pub trackedAll : State → List Access → List Tracked
+trackedAll s accesses = trackedBy stateAfter s accesses
 
 -- two objects, both owned by task 0
 abbrev pub opened : ℕ → State

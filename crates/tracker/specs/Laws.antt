@@ -17,6 +17,7 @@ pub mod Opened
 pub mod Plan
 pub mod Range
 pub mod Scan
+pub mod Seen
 pub mod State
 pub mod Sum
 pub mod Tracks

@@ -3,7 +3,7 @@ use mathlib.Core.Bool.{Bool}
 use Prim.Native.Nat.{ℕ, _+_}
 use lib.ListN.{set}
 use Rattle.codec.specs.declared.Position.{Position}
-use Rattle.tracker.specs.State.{doneOf, seenOf, tookOf, shareOf, localityOf, position}
+use Rattle.tracker.specs.State.{doneOf, seenOf, tookOf, localityOf, position}
 use Rattle.tracker.specs.Row.{rowAt}
 use Rattle.tracker.specs.declared.Locality.{Locality}
 use Rattle.tracker.specs.declared.Locality.the-variants.{WriteExclusive, ReadExclusive, ReadShared}
@@ -38,11 +38,7 @@ unchanged s task = record { seen = seenOf s task; took = tookOf s task; shares =
 abbrev pub numberNow : State → ℕ → ℕ
 numberNow s task = doneOf s task + 1
 
--- what row 6 sets Seen(T2) to, where G is `shares`
-abbrev pub fenceSeen : ℕ → Locality → ℕ
-fenceSeen shares l = shareOf l
-
--- row 5 makes share G + 1 at (T2, k), row 6 sets Seen, and row 8 keeps k
+-- row 5 makes share G + 1 at (T2, k), row 6 sets Seen to G (document 02, F-1), and row 8 keeps k
 unfoldable pub effectOf : Row → State → ℕ → Locality → Effect
 effectOf One s task l = unchanged s task
 effectOf Two s task l = unchanged s task
@@ -55,7 +51,7 @@ effectOf Five s task l = record {
   last = position task (numberNow s task);
 }
 effectOf Six s task l = record {
-  seen = fenceSeen (s .shares) l;
+  seen = s .shares;
   took = tookOf s task;
   shares = s .shares;
   last = s .last;

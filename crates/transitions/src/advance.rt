@@ -81,17 +81,16 @@ fn share(kept: Kept, first: Position) -> Plan
     }
 }
 
-// Row 6: the task has now seen the object's share.
+// Row 6: the read is ordered after the access that made the newest share, so the task has now seen every share.
 fn fence(locality: Locality, kept: Kept) -> Plan
     ensures { λ r. ⌜ r ≡ fencePlan locality kept ⌝ }
 {
-    let seen = share_of(locality);
     let last = kept.last;
     let second = Position { task: 0, number: 0 };
     Plan {
         row: 6,
         locality,
-        seen,
+        seen: kept.shares,
         took: kept.took,
         shares: kept.shares,
         last,

@@ -4,8 +4,8 @@ use Rattle.tracker.specs.Row.{rowOf}
 use Rattle.tracker.specs.Orderings.{everyDone, orderingsOf, leftOut, written}
 use Rattle.tracker.specs.Next.{localityAfter, effectOf, stateAfter}
 use Rattle.tracker.specs.Opened.{ownedRecords, openedState}
-use Rattle.runs.specs.Rows.{trackedAll, Rows}
+use Rattle.runs.specs.Rows.{trackedBy, Rows}
 
 pub rows : Rows
-unfolding trackedAll openedState ownedRecords rowOf orderingsOf everyDone written leftOut stateAfter localityAfter effectOf
+unfolding trackedBy openedState ownedRecords rowOf orderingsOf everyDone written leftOut stateAfter localityAfter effectOf
 rows = record { a = refl; fence = refl; four = refl; took = refl }

@@ -50,6 +50,10 @@ module _ (s : State) (task object : ℕ) (write : Bool) where
   unfolding stateAfter
   next-took l h = getD-set-same (s .took) task _ 0 (omega (arith, l .took))
 
+  pub next-shares : stateAfter s task object write .shares ≡ effectOf (rowAt s task object write) s task (localityOf s object) .shares
+  unfolding stateAfter
+  next-shares = refl
+
   pub next-last : stateAfter s task object write .last ≡ effectOf (rowAt s task object write) s task (localityOf s object) .last
   unfolding stateAfter
   next-last = refl

@@ -18,8 +18,8 @@ pub data Covered (h : History) (s : State) (object : ℕ) : Locality → Type 0 
   read-exclusive : {holder : ℕ} → Covers h (tookAt s holder) (writes object) → Covers h (doneAt s holder) (touches object)
       → Covered h s object (ReadExclusive holder)
   -- Shared c: the read that made share c was ordered after the holder's Took, which covered the writes, and nobody has written since.
-  -- Each share is ordered after the one before it, so Last covers the writes too. A task whose Seen is c or more has made a share since,
-  -- or was ordered after the Last of that time, so its Done covers the writes.
+  -- Each share is ordered after the one before it, so Last covers the writes too. A task whose Seen is c or more made that share or a
+  -- later one (row 5), or was ordered after Last when G was c or more (row 6), so its Done covers the writes.
   read-shared : {share : ℕ} → Covers h (s .last) (writes object)
       → ((task : ℕ) → task < s .tasks → share ≤ seenOf s task → Covers h (doneAt s task) (writes object))
       → Covered h s object (ReadShared share)

@@ -164,7 +164,7 @@ module _ (s : State) (task : ℕ) (shaped : Shaped s) (sound : Sound s) (low : t
   row-keeps l write row b (six share h) = record {
     rises = omega arith;
     by-one = omega arith;
-    seen = omega (arith, b .share-low);
+    seen = omega arith;
     took = omega (arith, sound .task task low .took-low);
     last = last-stays;
     object = b;

@@ -7,7 +7,7 @@ use Rattle.tracker.specs.State.{seenOf, tookOf, doneAt, tookAt, holderOf, nowhe
 use Rattle.tracker.specs.Row.{rowOf}
 use Rattle.tracker.specs.Laws.Plan.{planned, planFor, fewOf}
 use Rattle.tracker.specs.Orderings.{orderingsOf}
-use Rattle.tracker.specs.Next.{localityAfter, effectOf, numberNow, fenceSeen}
+use Rattle.tracker.specs.Next.{localityAfter, effectOf, numberNow}
 use Rattle.transitions.specs.declared.advance.Kept.{Kept}
 use Rattle.tracker.specs.Laws.Counters.{stateOf}
 use Rattle.tracker.specs.declared.Locality.{Locality}
@@ -47,7 +47,7 @@ abbrev pub fencePlan : Locality → Kept → Plan
 fencePlan l e = record {
   row = 6;
   locality = l;
-  seen = fenceSeen (e .shares) l;
+  seen = e .shares;
   took = e .took;
   shares = e .shares;
   last = e .last;
