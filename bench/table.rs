@@ -3,7 +3,7 @@
 
 use crate::both::Both;
 use crate::inputs::Script;
-use crate::peer::{reader, recorder};
+use crate::peer::{reader, recorder, replayer};
 use crate::random::Random;
 use crate::{ours, theirs};
 use std::hint::black_box;
@@ -154,6 +154,22 @@ fn recording_rows(random: &mut Random, limit: usize, count: usize) {
 
     let mut memory = vec![0; objects];
     let mut memory_2 = memory.clone();
+    // Of what an opening answers, where the last task's body ends.
+    let times = best([
+        &mut || {
+            all.iter()
+                .map(|r| ours::replay_open(&r.bytes, &mut memory).1[3 + 4 * 8] as u64)
+                .sum()
+        },
+        &mut || {
+            all.iter()
+                .map(|r| replayer::open(&r.bytes, &mut memory_2).run.end[8] as u64)
+                .sum()
+        },
+    ]);
+    assert!(memory == memory_2);
+    row(&format!("replay opening, {size} bytes"), "us", scale, &times, "");
+
     let times = best([
         &mut || {
             all.iter()

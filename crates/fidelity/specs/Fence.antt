@@ -21,6 +21,7 @@ unfoldable pub unwritten : ℕ → Box → List Call → Bool
 unwritten object b [] = true
 unwritten object b (c ∷ calls) = not (writesTo object b c) && unwritten object (leftBy b c) calls
 
+-- the object is in some share
 abbrev pub isShared : Locality → Bool
 isShared (WriteExclusive task) = false
 isShared (ReadExclusive task) = false

@@ -1,12 +1,11 @@
 -- Laws of `Fence`: a fence lasts, whatever the calls before it and after it.
-use mathlib.Core.Bool.{Bool, true, false, not, _&&_}
+use mathlib.Core.Bool.{Bool, true, false, not}
 use mathlib.Core.List.{List, [], _∷_}
 use mathlib.Core.Path.{_≡_, refl, sym, _∙_}
 use Prim.Native.Nat.{ℕ, _<_}
 use native.Mathlib.Omega.{arith}
 use borrow.Author.Tests.{eqb-true, eqb-false, eq-eqb}
-use lib.Dec.{eqb}
-use Rattle.codec.specs.Laws.Decide.{passes, fails, split, never, both-pass}
+use Rattle.codec.specs.Laws.Decide.{never, both-pass}
 use Rattle.tracker.specs.State.{localityOf}
 use Rattle.tracker.specs.Row.{rowAt, numberOf}
 use Rattle.tracker.specs.Laws.State.{Shaped}
@@ -36,6 +35,7 @@ module _ (b : Box) (c : AccessCall) where
   unfolding outcome refused
   row-refused a = rw (number-refused (b .state) (c .task) (c .object) (c .sort) (c .value) (b .memory) (c .out) (eqb-false _ _ a))
 
+-- only row 6 has the number 6
 number-six : (row : Row) → numberOf row ≡ 6 → row ≡ Six
 number-six One h = absurd (omega arith)
 number-six Two h = absurd (omega arith)
@@ -55,6 +55,7 @@ share-is (ReadExclusive task) p = absurd (never false p refl)
 share-is (ReadShared share) p = (share, refl)
 
 module _ (task object : ℕ) where
+  -- the object is in a share that the task has seen
   record Stands (b : Box) : Type 0 where
     pub shaped : Shaped (b .state)
     pub sees : Sees (b .state) task object

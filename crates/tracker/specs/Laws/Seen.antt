@@ -56,12 +56,12 @@ read-stays s task share seen = elim (split (leb share seen)) [
   | fails p ↦ rw p
 ]
 
--- rows 5 and 6
+-- the rows that set Seen to G
 pub data Newest : Row → Type 0 where
   newest-five : Newest Five
   newest-six : Newest Six
 
--- set Seen to G
+-- row 5 to the G that it makes
 newest-seen : {row : Row} (s : State) (task : ℕ) (l : Locality) → Newest row → effectOf row s task l .seen ≡ effectOf row s task l .shares
 unfolding effectOf
 newest-seen s task l newest-five = refl
