@@ -6,6 +6,7 @@
 ghost use mathlib.Core.Path.{_≡_};
 ghost use Rattle.codec.specs.Store.{store};
 ghost use Rattle.codec.specs.Limit.{maxTasks, maxObjects};
+ghost use Rattle.tracker.specs.State.{shareOf};
 ghost use Rattle.tracker.specs.Laws.Counters.{countersOf};
 ghost use Rattle.pending.specs.Each.{each};
 ghost use Rattle.arrays.specs.Halves.{recordOf, recordIn, stateIn, caseOf, casesOf, holdersOf, sharesOf, firstOf, halvesOf, wordsOf};
@@ -20,7 +21,6 @@ use tracker::Locality;
 use tracker::ObjectRecord;
 use tracker::State;
 use transitions::advance::holder_of;
-use transitions::advance::share_of;
 
 // A case above 2 means nothing. It is read as shared with share number 0, which is unsound, so each call on it answers 17.
 fn record_of(case: u16, task: u16, share: u32) -> ObjectRecord
@@ -102,6 +102,17 @@ fn case_of(locality: Locality) -> u16
         Locality::WriteExclusive(_) => 0,
         Locality::ReadExclusive(_) => 1,
         Locality::ReadShared(_) => 2,
+    }
+}
+
+// The share number of a shared object, 0 for any other.
+fn share_of(locality: Locality) -> u32
+    ensures { λ r. ⌜ r ≡ shareOf locality ⌝ }
+{
+    match locality {
+        Locality::WriteExclusive(_) => 0,
+        Locality::ReadExclusive(_) => 0,
+        Locality::ReadShared(share) => share,
     }
 }
 

@@ -1,7 +1,7 @@
 // An access by the transition table: `decide` chooses what it does; the recorder does it.
 ghost use mathlib.Core.Path.{_≡_};
 ghost use Prim.Native.Nat.{_+_, _<_, _^_};
-ghost use Rattle.tracker.specs.State.{holderOf, shareOf};
+ghost use Rattle.tracker.specs.State.{holderOf};
 ghost use Rattle.transitions.specs.Laws.ByRow.{plainPlan, sharePlan, fencePlan, holdPlan, planBy};
 ghost use Rattle.tracker.specs.Laws.Plan.{Admits, planFor};
 use crate::table::row_of;
@@ -28,17 +28,6 @@ pub fn holder_of(locality: Locality) -> u16
         Locality::WriteExclusive(holder) => holder,
         Locality::ReadExclusive(holder) => holder,
         Locality::ReadShared(_) => 0,
-    }
-}
-
-// The share number of a shared object, 0 for any other.
-pub fn share_of(locality: Locality) -> u32
-    ensures { λ r. ⌜ r ≡ shareOf locality ⌝ }
-{
-    match locality {
-        Locality::WriteExclusive(_) => 0,
-        Locality::ReadExclusive(_) => 0,
-        Locality::ReadShared(share) => share,
     }
 }
 
