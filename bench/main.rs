@@ -1,4 +1,4 @@
-//! The proved library beside `peer.rs`, an implementation of the same calls by another hand. Both do the same work on the same bytes in
+//! The proved library beside `peer.rs`, an implementation of the same calls from the papers. Both do the same work on the same bytes in
 //! this process: first a table of times, then random calls whose answers are compared.
 //!
 //! Arguments: the first script's seed and the number of scripts.
