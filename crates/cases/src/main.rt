@@ -1,7 +1,7 @@
 // Plays the recordings of data/ and compares the output: runs that no theorem covers, among them two that get stuck.
-use transcript::MOST_REASONS;
 use transcript::space;
 use transcript::tell;
+use waits::MOST_WAITS;
 
 // Writes a recording's name and then what the replay program writes for it on both streams.
 fn play_file(path: &[u8]) {
@@ -14,7 +14,7 @@ fn play_file(path: &[u8]) {
     io::write_all(1, path);
     io::write_all(1, b"\n");
     let mut out = space();
-    let mut why = [0u8; MOST_REASONS];
+    let mut why = [0u8; MOST_WAITS];
     let told = tell(&bytes[..n], &mut out, &mut why);
     let text = told.text;
     let reasons = told.reasons;

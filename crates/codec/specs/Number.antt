@@ -69,6 +69,10 @@ held = 16
 abbrev pub unsound : ℕ
 unsound = 17
 
+-- no order of all accesses keeps each task's own order and every ordering (document 02, F-2)
+abbrev pub noOrder : ℕ
+noOrder = 18
+
 -- the ends of the logs decrease, go past the logs, or are not T in number (document 02, F-8)
 abbrev pub ends : ℕ
 ends = 21

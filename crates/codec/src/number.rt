@@ -34,5 +34,7 @@ pub const FINISHED: u32 = 15;
 pub const HELD: u32 = 16;
 // 17: unsound state or run.
 pub const UNSOUND: u32 = 17;
+// 18: no order of all accesses keeps each task's own order and every ordering (document 02, F-2).
+pub const NO_ORDER: u32 = 18;
 // 21: the ends of the logs decrease, go past the logs, or are not T in number (document 02, F-8).
 pub const ENDS: u32 = 21;

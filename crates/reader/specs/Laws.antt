@@ -8,6 +8,7 @@ pub mod Joined
 pub mod Laid
 pub mod Layout
 pub mod LocateCode
+pub mod Located
 pub mod OneByOne
 pub mod Positive
 pub mod Roundtrip

@@ -1,8 +1,8 @@
 // The replay program (document 01): plays a recording from a file or standard input, always the lowest ready task, one line for each
 // step.
-use transcript::MOST_REASONS;
 use transcript::space;
 use transcript::tell;
+use waits::MOST_WAITS;
 
 // Reads one byte more than a recording may have, to notice a longer one.
 fn main() {
@@ -30,7 +30,7 @@ There is no exit status: look at what was written.
     }
     let n = asked.count;
     let mut out = space();
-    let mut why = [0u8; MOST_REASONS];
+    let mut why = [0u8; MOST_WAITS];
     let told = tell(&bytes[..n], &mut out, &mut why);
     let text = told.text;
     let reasons = told.reasons;

@@ -1,2 +1,4 @@
+pub mod Limits
 pub mod Lines
+pub mod Streams
 pub mod Laws

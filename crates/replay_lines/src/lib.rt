@@ -1,8 +1,10 @@
-// The lines that the program writes, each put into the output at an offset; the offset after it is returned.
+// The lines that the programs write, each put into the output at an offset; the offset after it is returned.
 ghost use mathlib.Core.Path.{_≡_};
 ghost use Prim.Native.Nat.{_+_, _≤_};
 ghost use lib.ListN.{length};
 ghost use Rattle.text.specs.Appended.{Appended};
+ghost use Rattle.text.specs.Zeros.{Zeros};
+ghost use Rattle.replay_lines.specs.Limits.{mostSteps};
 ghost use Rattle.replay_lines.specs.Lines.{letterOf, lineOf, endLine, refusalOf, memoryOf};
 use codec::kind::reads;
 use replayer::Stepped;
@@ -10,6 +12,25 @@ use text::put_byte;
 use text::put_bytes;
 use text::put_field;
 use text::put_number;
+
+// The most bytes that a recording can have which a program takes.
+pub const LONGEST: usize = 65536;
+
+// The most accesses that it can then have.
+pub const MOST_STEPS: usize = 10922;
+
+// The number of bytes for standard output (the text) and for standard error (the reasons).
+pub struct Written {
+    pub text: usize,
+    pub reasons: usize,
+}
+
+// A buffer with a byte for each step.
+pub fn blank_order() -> [u8; MOST_STEPS]
+    ensures { λ r. ⌜ Zeros mostSteps r ⌝ }
+{
+    [0u8; MOST_STEPS]
+}
 
 fn letter(kind: u16) -> u8
     ensures { λ r. ⌜ r ≡ letterOf kind ⌝ }

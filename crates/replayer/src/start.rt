@@ -43,12 +43,10 @@ fn starts(spans: [Span; TASKS], tasks: usize) -> [TaskRun; TASKS]
     runs
 }
 
-// The run at the start of a layout, with the memory set. For a layout that `locate` found and a memory of N entries, this is the opening.
-pub fn begin(bytes: &[u8], l: Layout, memory: &mut [u32]) -> Run
+// The run at the start of a layout's bodies. It needs no memory.
+pub fn started(l: Layout) -> Run
     ensures { λ r. ⌜ r ≡ begunOf l ⌝ }
-    ensures { λ r. ⌜ now (memory .exit) ≡ startingIn (now (bytes .entry)) (now (memory .entry)) ⌝ }
 {
-    set_starting(bytes, memory);
     let spans = l.spans;
     let runs = starts(spans, l.tasks);
     Run {
@@ -56,6 +54,15 @@ pub fn begin(bytes: &[u8], l: Layout, memory: &mut [u32]) -> Run
         objects: l.objects,
         runs,
     }
+}
+
+// The run at the start of a layout, with the memory set. For a layout that `locate` found and a memory of N entries, this is the opening.
+pub fn begin(bytes: &[u8], l: Layout, memory: &mut [u32]) -> Run
+    ensures { λ r. ⌜ r ≡ begunOf l ⌝ }
+    ensures { λ r. ⌜ now (memory .exit) ≡ startingIn (now (bytes .entry)) (now (memory .entry)) ⌝ }
+{
+    set_starting(bytes, memory);
+    started(l)
 }
 
 // A refused opening: the blank run.

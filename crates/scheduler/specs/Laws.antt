@@ -3,6 +3,8 @@ pub mod Columns
 pub mod ColumnsCode
 pub mod Finish
 pub mod Lowest
+pub mod Opened
 pub mod Schedule
 pub mod ScheduleCode
+pub mod Settled
 pub mod Visit

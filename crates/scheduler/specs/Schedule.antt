@@ -33,6 +33,15 @@ scheduleFrom (suc fuel) b r =
 abbrev pub scheduleOf : List ℕ → Run → List ℕ
 scheduleOf b r = scheduleFrom (leftOver r) b r
 
+-- the run after a list of steps without a memory: each task moves on over its next access if that may be done
+unfoldable pub ranBy : List ℕ → Run → List ℕ → Run
+ranBy b r [] = r
+ranBy b r (t ∷ ts) = ranBy b (behindOf r t (nextOf r b t)) ts
+
+-- the run after the order
+abbrev pub settledOf : List ℕ → Run → Run
+settledOf b r = ranBy b r (scheduleOf b r)
+
 -- a play after a step of a task, and after a list of steps
 abbrev pub steppedBy : List ℕ → Play → ℕ → Play
 steppedBy b x t = record {

@@ -1,8 +1,9 @@
 // A run as columns: one array for each field of its tasks. They are lent, where a run by value would be copied.
 ghost use mathlib.Core.Path.{_≡_};
-ghost use Rattle.scheduler.specs.Laws.Columns.{columnsOf};
+ghost use Rattle.scheduler.specs.Laws.Columns.{columnsOf, runOf};
 use codec::limit::TASKS;
 use pending::Run;
+use pending::TaskRun;
 
 pub struct Columns {
     pub places: [usize; TASKS],
@@ -30,5 +31,39 @@ pub fn columns_of(run: Run) -> Columns
         ends,
         dones,
         counts,
+    }
+}
+
+// The run that the columns represent.
+pub fn run_of(
+    tasks: usize,
+    objects: usize,
+    places: &[usize; TASKS],
+    ends: &[usize; TASKS],
+    dones: &[usize; TASKS],
+    counts: &[usize; TASKS],
+) -> Run
+    ensures { λ r. ⌜ r ≡ runOf tasks objects (now (places .entry)) (now (ends .entry)) (now (dones .entry)) (now (counts .entry)) ⌝ }
+{
+    let blank = TaskRun {
+        place: 0,
+        end: 0,
+        done: 0,
+        count: 0,
+    };
+    let mut runs = [blank; TASKS];
+    for t in 0..TASKS {
+        let x = TaskRun {
+            place: places[t],
+            end: ends[t],
+            done: dones[t],
+            count: counts[t],
+        };
+        runs[t] = x;
+    }
+    Run {
+        tasks,
+        objects,
+        runs,
     }
 }

@@ -3,7 +3,6 @@ pub mod Answered
 pub mod Objects
 pub mod Reasons
 pub mod ReasonsEach
-pub mod Streams
 pub mod Text
 pub mod TextBound
 pub mod Told

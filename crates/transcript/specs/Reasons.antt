@@ -9,8 +9,8 @@ use Rattle.reader.specs.Parse.{Parsed, parse}
 use Rattle.entries.specs.Reading.{Reading, refused, read}
 use Rattle.replayer.specs.OpenOf.{openedRun}
 use Rattle.scheduler.specs.Schedule.{scheduleOf}
+use Rattle.replay_lines.specs.Limits.{longest}
 use Rattle.waits.specs.Waits.{waitsOf}
-use Rattle.transcript.specs.Text.{longest}
 use Rattle.transcript.specs.Told.{afterOf}
 
 unfoldable pub reasonsIn : List ℕ → Reading Parsed → List ℕ

@@ -22,6 +22,9 @@ use text::put_byte;
 use text::put_bytes;
 use text::put_field;
 
+// The most bytes that the lines can have, one for each of 16 tasks.
+pub const MOST_WAITS: usize = 2432;
+
 // Words, a number and the byte after it.
 fn put_part(out: &mut [u8], at: usize, words: &[u8], n: u64, after: u8) -> usize
     requires { ⌜ at + length (now words) + 21 ≤ length (now out) ⌝ }
@@ -39,8 +42,14 @@ fn put_line(out: &mut [u8], at: usize, task: usize, source: u16, number: u16, pl
 {
     let a = put_part(out, at, b"task ", task as u64, b' ');
     let b = put_part(out, a, b"waits for access ", number as u64, b' ');
-    let c = put_part(out, b, b"of task ", source as u64, b' ');
-    let d = put_part(out, c, b"(ordering at byte ", place as u64, b')');
+    let c = put_part(out, b, b"of task ", source as u64, b',');
+    let d = put_part(
+        out,
+        c,
+        b" which never comes (ordering at byte ",
+        place as u64,
+        b')',
+    );
     put_byte(out, d, b'\n')
 }
 

@@ -15,7 +15,7 @@ use Rattle.playback.specs.Alike.{sameEntries, alikeOf, refusing, compari
 use Rattle.scheduler.specs.Finish.{Play}
 use Rattle.playback.specs.Shown.{shownPlay}
 use Rattle.playback.specs.ToEnd.{playOf}
-use Rattle.playback.specs.Laws.ToEndCode.{away, found, located}
+use Rattle.reader.specs.Laws.Located.{away, found, located}
 
 -- the results of the two plays and the two tests on them
 pub compares : (x y : Play) (p q : Played) (m n : List ℕ) (s a : Bool) → p ≡ shownPlay x → q ≡ shownPlay y → m ≡ x .memory → n ≡ y .memory → s ≡ sameEntries m n → a ≡ alikeOf p q s → a ≡ comparing x y .answer .alike

@@ -22,7 +22,7 @@ use Rattle.codec.specs.Number.{entries as wrongLength}
 use Rattle.codec.specs.Limit.{maxTasks}
 use Rattle.pending.specs.Run.{blankTasks}
 use Rattle.replayer.specs.Laws.OpenOf.{starts-length}
-use Rattle.replayer.specs.OpenOf.{startOf, startsOf, begunOf, refusedOpen, onParse, openOf}
+use Rattle.replayer.specs.OpenOf.{startOf, startsOf, begunOf, openedRun, refusedOpen, onParse, openOf}
 
 -- the tasks
 pub starts-none : (spans : List Span) → startsOf spans 0 ≡ blankTasks
@@ -50,6 +50,12 @@ starts-same : (a b : List Span) (n : ℕ) → ((t : ℕ) → t < n → getD a t 
 unfolding startsOf
 starts-same a b zero h = refl
 starts-same a b (suc n) h = rw (h n (omega arith), starts-same a b n (λ t k. h t (omega arith)))
+
+-- the run at the start of a layout is the recording's
+pub begun-opened : (b : List ℕ) (p : Parsed) (l : Layout) → l ≡ layoutOf (parse b) → parse b ≡ read p → begunOf l ≡ openedRun p
+begun-opened b p l e q =
+    let w : Laid p l = rw e (laid-read b p q) in
+    rw (w .tasks, w .objects, starts-same (l .spans) (p .spans) (p .recording .tasks) (w .span))
 
 -- what opening finds in the layout
 pub record Refusing (b memory : List ℕ) (number offset : ℕ) : Type 0 where
@@ -101,6 +107,6 @@ module _ (b memory : List ℕ) (l : Layout) (e : l ≡ layoutOf (parse b)) where
           let n : length memory ≡ length (p .recording .owners) = h ∙ w .objects in
           let d = eq-eqb (length memory) (length (p .recording .owners)) n in
           record {
-            answer = rw (q, d, w .tasks, w .objects, starts-same (l .spans) (p .spans) (p .recording .tasks) (w .span));
+            answer = rw (q, d, begun-opened b p l e q);
             values = rw (starting-there b memory (rw n (v .within)), q, d, n) (sym (v .values));
           }

@@ -1,6 +1,6 @@
 -- The order of a play: it is the order in which the play to the end steps the tasks, each of its steps is taken, and no task is ready
 -- after it.
-use mathlib.Core.Path.{_≡_, refl}
+use mathlib.Core.Path.{_≡_, refl, ap}
 use mathlib.Core.Bool.{true}
 use mathlib.Core.List.{List, [], _∷_}
 use Prim.Native.Nat.{ℕ, zero, suc, _≤_}
@@ -10,6 +10,7 @@ use lib.ListN.{length}
 use borrow.Author.Tests.{eq-eqb, ne-eqb}
 use Rattle.codec.specs.declared.Op.{Op}
 use Rattle.pending.specs.declared.Run.{Run}
+use Rattle.pending.specs.declared.next.Next.the-variants.{Open}
 use Rattle.scheduler.specs.Finish.{Play, onward, playedOf, leftOver, finishOf}
 use Rattle.scheduler.specs.Laws.Finish.{Playing, goes-onward, finish-ends}
 use Rattle.scheduler.specs.Laws.Lowest.{IsNext, goes-on, stops, standing, behind, step-open}
@@ -17,7 +18,7 @@ use Rattle.pending.specs.Laws.Moved.{Shaped, moved-shaped}
 use Rattle.pending.specs.Next.{nextOf}
 use Rattle.replayer.specs.ReadyOf.{readyOf}
 use Rattle.pending.specs.Run.{movedOf}
-use Rattle.scheduler.specs.Schedule.{nextTask, behindOf, scheduleFrom, scheduleOf, steppedBy, playedBy}
+use Rattle.scheduler.specs.Schedule.{nextTask, behindOf, scheduleFrom, scheduleOf, ranBy, settledOf, steppedBy, playedBy}
 use Rattle.pending.specs.Sound.{soundOf}
 use Rattle.replayer.specs.StepOf.{onNext, stepOf}
 
@@ -31,24 +32,11 @@ pub schedule-goes : (n : ℕ) (b : List ℕ) (r : Run) (t : ℕ) (op : Op) (next
 unfolding scheduleFrom behindOf
 schedule-goes n b r t op next w = rw (ne-eqb (readyOf r b .word) 0 (w .goes), w .first, w .opens)
 
--- as many steps as accesses are left are enough
-pub schedule-enough : (b : List ℕ) (r : Run) (n : ℕ) → soundOf r (length b) ≡ true → Shaped r → leftOver r ≤ n → scheduleFrom n b r ≡ scheduleOf b r
-schedule-enough b r zero s h l = elim (standing r b s) [
-  | stops z ↦ rw (schedule-stops (leftOver r) b r z, schedule-stops zero b r z)
-  | goes-on t op next w ↦ absurd (omega (arith, behind r b t op next s h w .fewer))
-]
-schedule-enough b r (suc n) s h l = elim (standing r b s) [
-  | stops z ↦ rw (schedule-stops (leftOver r) b r z, schedule-stops (suc n) b r z)
-  | goes-on t op next w ↦
-      let k = behind r b t op next s h w in
-      let f : leftOver r ≡ suc (leftOver (movedOf r t next)) = omega (arith, k .fewer) in
-      rw (
-        f,
-        schedule-goes n b r t op next w,
-        schedule-goes (leftOver (movedOf r t next)) b r t op next w,
-        schedule-enough b (movedOf r t next) n (k .sound) (moved-shaped r t next h) (omega arith),
-      )
-]
+pub schedule-next : (b : List ℕ) (r : Run) → soundOf r (length b) ≡ true → Shaped r → (t : ℕ) (op : Op) (next : ℕ) → IsNext r b t op next
+    → scheduleOf b r ≡ t ∷ scheduleOf b (movedOf r t next)
+schedule-next b r s h t op next w =
+    let f : leftOver r ≡ suc (leftOver (movedOf r t next)) = omega (arith, behind r b t op next s h w .fewer) in
+    rw f (schedule-goes (leftOver (movedOf r t next)) b r t op next w)
 
 short : (n : ℕ) (b : List ℕ) (r : Run) → length (scheduleFrom n b r) ≤ n
 unfolding scheduleFrom
@@ -60,6 +48,23 @@ short (suc n) b r = elim (ℕ-discrete (readyOf r b .word) 0) [
 
 pub schedule-short : (b : List ℕ) (r : Run) → length (scheduleOf b r) ≤ leftOver r
 schedule-short b r = short (leftOver r) b r
+
+-- as many steps as the order has are enough, or as many as accesses are left
+pub schedule-within : (b : List ℕ) (n : ℕ) (r : Run) → soundOf r (length b) ≡ true → Shaped r → length (scheduleOf b r) ≤ n → scheduleFrom n b r ≡ scheduleOf b r
+schedule-within b zero r s h l = elim (standing r b s) [
+  | stops z ↦ rw (schedule-stops (leftOver r) b r z, schedule-stops zero b r z)
+  | goes-on t op next w ↦ absurd (omega (arith, rw (schedule-next b r s h t op next w) at l))
+]
+schedule-within b (suc n) r s h l = elim (standing r b s) [
+  | stops z ↦ rw (schedule-stops (leftOver r) b r z, schedule-stops (suc n) b r z)
+  | goes-on t op next w ↦
+      let e = schedule-next b r s h t op next w in
+      let k : length (scheduleOf b (movedOf r t next)) ≤ n = omega (arith, rw e at l) in
+      rw (e, schedule-goes n b r t op next w, schedule-within b n (movedOf r t next) (behind r b t op next s h w .sound) (moved-shaped r t next h) k)
+]
+
+pub schedule-enough : (b : List ℕ) (r : Run) (n : ℕ) → soundOf r (length b) ≡ true → Shaped r → leftOver r ≤ n → scheduleFrom n b r ≡ scheduleOf b r
+schedule-enough b r n s h l = schedule-within b n r s h (omega (arith, schedule-short b r))
 
 -- each step of a list is taken in its place: its number is 0
 unfoldable pub AllTaken : List ℕ → Play → List ℕ → Type 0
@@ -100,7 +105,30 @@ takes (suc n) b x w = elim (standing (x .run) b (w .sound)) [
       rw (schedule-goes n b (x .run) t op next k, s .run) (s .number, takes n b (steppedBy b x t) (s .playing))
 ]
 
+-- an access that may be done, in a run without a memory
+behind-open : (b : List ℕ) (r : Run) (t : ℕ) (op : Op) (next : ℕ) → nextOf r b t ≡ Open op next → behindOf r t (nextOf r b t) ≡ movedOf r t next
+unfolding behindOf
+behind-open b r t op next o = rw o
+
+pub ran-one : (b : List ℕ) (r : Run) (t : ℕ) (op : Op) (next : ℕ) (ts : List ℕ) → nextOf r b t ≡ Open op next → ranBy b r (t ∷ ts) ≡ ranBy b (movedOf r t next) ts
+unfolding ranBy
+ran-one b r t op next ts o = ap (λ (q : Run). ranBy b q ts) (behind-open b r t op next o)
+
+-- the play's run is the run without a memory
+ran-same : (n : ℕ) (b : List ℕ) (x : Play) → Playing b x → playedBy b x (scheduleFrom n b (x .run)) .run ≡ ranBy b (x .run) (scheduleFrom n b (x .run))
+unfolding scheduleFrom playedBy ranBy
+ran-same zero b x w = refl
+ran-same (suc n) b x w = elim (standing (x .run) b (w .sound)) [
+  | stops z ↦ rw (eq-eqb (readyOf (x .run) b .word) 0 z)
+  | goes-on t op next k ↦
+      let s = step-taken b x w t op next k in
+      rw (schedule-goes n b (x .run) t op next k, ran-one b (x .run) t op next (scheduleFrom n b (movedOf (x .run) t next)) (k .opens), s .run) (ran-same n b (steppedBy b x t) (s .playing))
+]
+
 module _ (b : List ℕ) (x : Play) (w : Playing b x) where
+  pub schedule-settled : playedBy b x (scheduleOf b (x .run)) .run ≡ settledOf b (x .run)
+  schedule-settled = ran-same (leftOver (x .run)) b x w
+
   pub schedule-finish : playedBy b x (scheduleOf b (x .run)) ≡ finishOf b x
   schedule-finish = finishes (leftOver (x .run)) b x w
 

@@ -12,8 +12,7 @@ use Rattle.entries.specs.OrderingAt.{orderingAt}
 use Rattle.pending.specs.declared.Run.{Run}
 use Rattle.pending.specs.declared.TaskRun.{TaskRun}
 use Rattle.pending.specs.FirstUnmet.{unmetAt, Holds}
-use Rattle.pending.specs.Laws.Look.{OneTask}
-use Rattle.pending.specs.Next.{entryNext}
+use Rattle.pending.specs.Laws.Look.{OneTask, look-unmet}
 use Rattle.replayer.specs.ReadyOf.{hasLeft}
 use Rattle.pending.specs.Unmet.{Unmet, none, first, unmetNext}
 use Rattle.text.specs.Decimal.{fieldOf}
@@ -57,13 +56,9 @@ module _ (b : List ℕ) (r : Run) (t : ℕ) (x : TaskRun) (m : Limits) (dones : 
   wait-done h = rw (← w .task, le-ltb _ _ h)
 
   module _ (l : x .done < x .count) (place at : ℕ) (k : Holds m b dones (x .place) (x .end) (unmetAt b place at)) where
-    next-unmet : unmetAt b place at ≡ unmetNext r b t
-    unfolding unmetNext entryNext
-    next-unmet = rw (w .task, w .limits) at (k (r .runs) (w .counts))
-
     wait-left : waitOf b r t ≡ waitLine t (unmetAt b place at)
     unfolding waitOf
-    wait-left = rw (← w .task, lt-ltb _ _ l, next-unmet)
+    wait-left = rw (← w .task, lt-ltb _ _ l, look-unmet r b t x m dones w _ k)
 
     pub wait-open : at ≤ place → waitOf b r t ≡ []
     unfolding unmetAt waitLine

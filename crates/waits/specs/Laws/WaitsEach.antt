@@ -1,10 +1,11 @@
 -- A task that has accesses left and is not ready, and whose next entry can be read, has its line.
-use mathlib.Core.Path.{_≡_, refl}
+use mathlib.Core.Path.{_≡_, refl, sym, _∙_}
 use mathlib.Core.Bool.{Bool, true, false}
 use mathlib.Core.List.{List, [], _∷_}
-use Prim.Native.Nat.{ℕ, _+_}
+use Prim.Native.Nat.{ℕ, _+_, _<_}
 use native.Mathlib.Omega.{arith}
 use lib.Dec.{leb}
+use borrow.Author.Tests.{ltb-true}
 use Rattle.codec.specs.declared.Position.{Position}
 use Rattle.codec.specs.Kind.{orderingKind, lengthOf}
 use Rattle.codec.specs.Laws.Decide.{passes, fails, split}
@@ -14,7 +15,10 @@ use Rattle.pending.specs.declared.Run.{Run}
 use Rattle.pending.specs.declared.TaskRun.{TaskRun}
 use Rattle.pending.specs.Met.{allMet}
 use Rattle.pending.specs.Next.{entryNext, judged, nextOf, isOpen}
-use Rattle.replayer.specs.ReadyOf.{hasLeft, isReady}
+use Rattle.replayer.specs.Laws.Along.{Along, along-entry}
+use Rattle.replayer.specs.ReadyOf.{hasLeft, isReady, readyOf}
+use Rattle.replayer.specs.Laws.ReadyOf.{ready-word}
+use Rattle.replayer.specs.Laws.Word.{zero-bit}
 use Rattle.pending.specs.Run.{taskAt, doneOf}
 use Rattle.pending.specs.Unmet.{Unmet, first, unmetOf, unmetIn, unmetNext}
 use Rattle.waits.specs.Waits.{waitLine, waitOf}
@@ -59,3 +63,8 @@ module _ (b : List ℕ) (r : Run) (t : ℕ) (l : hasLeft r t ≡ true) (n : isRe
 
   pub wait-each : Waiting b r t
   wait-each = let h = next-held in record { place = h .place; ordering = h .ordering; unmet = h .is; line = line-so (first (h .place) (h .ordering)) (h .is) }
+
+-- on the way through a recording what is next for a task can be read: if no task is ready, each one that has accesses left has its line
+module _ (b : List ℕ) (bodies : List (List Entry)) (r : Run) (w : Along b bodies r) (z : readyOf r b .word ≡ 0) where
+  pub waits-each : (t : ℕ) → t < r .tasks → hasLeft r t ≡ true → Waiting b r t
+  waits-each t h l = wait-each b r t l (sym (ready-word r b (w .sound) .bit t h) ∙ rw z (zero-bit t)) _ (along-entry b bodies r w t h (ltb-true _ _ l))

@@ -2,17 +2,17 @@ use mathlib.Core.Path.{ap, _∙_}
 use native.Mathlib.Omega.{arith}
 use denote.Ref.{now}
 use borrow.Author.Needs.{needs}
-use Rattle.playback.specs.Laws.ToEndCode.{Playable, playable, plays, same-play}
+use Rattle.playback.specs.Laws.ToEndCode.{CanPlay, can-play, plays, same-play}
 use Rattle.scheduler.specs.Finish.{Play}
 use Rattle.playback.specs.Shown.{shownPlay}
 use Rattle.playback.proofs.to_end.play.Statement.{statement}
 use Rattle.playback.proofs.to_end.play.Tie as tie
 
-can-play : (c : tie.After-begin-arg) → let a = c .before .before .before .args in Playable (now (a .bytes)) (now (a .memory)) (a .l)
-can-play c =
+playing : (c : tie.After-begin-arg) → let a = c .before .before .before .args in CanPlay (now (a .bytes)) (now (a .memory)) (a .l)
+playing c =
     let a = c .before .before .before .args in
     let p = c .before .before .before .pre in
-    playable (now (a .bytes)) (now (a .memory)) (a .l) (λ i. omega (arith, c .before .before .shared-slice-known .given i)) (p .0) (p .1) (p .2)
+    can-play (now (a .bytes)) (now (a .memory)) (a .l) (λ i. omega (arith, c .before .before .shared-slice-known .given i)) (p .0) (p .1) (p .2)
 
 begin-requires : tie.Need-begin-requires
 begin-requires c κs = search needs
@@ -21,7 +21,7 @@ finish-requires : tie.Need-finish-requires
 finish-requires c κs =
     let a = c .before .before .before .before .before .before .before .args in
     let g = c .before .before .before .begin in
-    plays (now (a .bytes)) (now (a .memory)) (a .l) (can-play (c .before .before .before .before)) (g .result) (g .last .1 .1 .0) (g .ensures .0) (g .ensures .1)
+    plays (now (a .bytes)) (now (a .memory)) (a .l) (playing (c .before .before .before .before)) (g .result) (g .last .1 .1 .0) (g .ensures .0) (g .ensures .1)
 
 same-length : tie.Need-same-length
 same-length c = c .before .before .finish .kept .1 .1 .0 ∙ c .before .before .before .before .before .before .begin .kept .1 .1 .0
@@ -31,7 +31,7 @@ returns c =
     let a = c .before .before .before .before .before .before .before .before .before .before .args in
     let g = c .before .before .before .before .before .before .begin in
     let f = c .before .before .finish .ensures in
-    let e = same-play (now (a .bytes)) (now (a .memory)) (a .l) (can-play (c .before .before .before .before .before .before .before)) (g .result) (g .last .1 .1 .0) (g .ensures .0) (g .ensures .1) in
+    let e = same-play (now (a .bytes)) (now (a .memory)) (a .l) (playing (c .before .before .before .before .before .before .before)) (g .result) (g .last .1 .1 .0) (g .ensures .0) (g .ensures .1) in
     (f .0 ∙ ap shownPlay e, f .1 ∙ ap (λ (x : Play). x .memory) e)
 
 pub play-spec : {M : Type 1} → statement M

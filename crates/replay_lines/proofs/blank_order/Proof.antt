@@ -1,7 +1,7 @@
 use Rattle.text.specs.Laws.Zeros.{zeros-are}
-use Rattle.transcript.specs.Laws.Text.{mostSteps}
-use Rattle.transcript.proofs.blank_order.Statement.{statement}
-use Rattle.transcript.proofs.blank_order.Tie as tie
+use Rattle.replay_lines.specs.Limits.{mostSteps}
+use Rattle.replay_lines.proofs.blank_order.Statement.{statement}
+use Rattle.replay_lines.proofs.blank_order.Tie as tie
 
 returns : tie.Need-returns
 returns c = zeros-are mostSteps
