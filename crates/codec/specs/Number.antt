@@ -1,5 +1,5 @@
 -- Document 01's number table.
-use Prim.Native.Nat.{ℕ}
+use Prim.Native.Nat.{ℕ, _≤_}
 
 -- T not 1 to 16
 abbrev pub taskRange : ℕ
@@ -56,6 +56,10 @@ range = 13
 -- (a), (d) against a body's end, and a wrong count of accesses
 abbrev pub inBody : ℕ
 inBody = 14
+
+-- the numbers that the reader gives
+abbrev pub ByReader : ℕ → Type 0
+ByReader n = (short ≤ n) × (n ≤ inBody)
 
 -- this task has no accesses left
 abbrev pub finished : ℕ

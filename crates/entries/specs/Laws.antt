@@ -6,8 +6,8 @@ pub mod Bytes
 pub mod Entry
 pub mod EntryCase
 pub mod EntryFits
+pub mod Numbered
 pub mod OrderingAt
 pub mod Part
-pub mod Positive
 pub mod Reading
 pub mod WalkCode

@@ -6,9 +6,11 @@ pub mod Filed
 pub mod FirstBox
 pub mod Follows
 pub mod LeftOver
+pub mod LowestFirst
 pub mod Matches
 pub mod OneCall
 pub mod Packed
+pub mod Playable
 pub mod Replayed
 pub mod RunA
 pub mod Sim

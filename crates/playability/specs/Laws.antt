@@ -3,6 +3,7 @@ pub mod Counted
 pub mod Held
 pub mod Order
 pub mod PlayableCode
+pub mod PlayableOf
 pub mod SettleCode
 pub mod Theorem
 pub mod Walk

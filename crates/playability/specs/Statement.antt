@@ -5,7 +5,7 @@ use mathlib.Core.Path.{_≡_}
 use Prim.Native.Nat.{ℕ, _+_, _*_, _≤_, _<_}
 use lib.ListN.{length, getD, take}
 use Rattle.codec.specs.declared.Position.{Position}
-use Rattle.codec.specs.Number.{noRoom, noOrder}
+use Rattle.codec.specs.Number.{noRoom, noOrder, ByReader}
 use Rattle.codec.specs.Store.{store}
 use Rattle.entries.specs.declared.Checked.{Checked}
 use Rattle.entries.specs.Laws.AccessCount.{accessesIn}
@@ -44,8 +44,8 @@ module _ (b out : List ℕ) where
   after = playableOf b out .out
 
   pub record Answers : Type 0 where
-    -- 1. Bytes that do not read: the reader's number and offset.
-    pub bytes-first : (c : Checked) → parse b ≡ refused c → answer ≡ refusedPlayable (c .number) (c .offset) 0
+    -- 1. Bytes that do not read: the reader's number, 10 to 14, and offset.
+    pub bytes-first : (c : Checked) → parse b ≡ refused c → (answer ≡ refusedPlayable (c .number) (c .offset) 0) × ByReader (c .number)
     -- 2. 18 exactly if no list of tasks is an order of all accesses; with it the lowest task that stays held and what holds it up.
     pub no-order : (p : Parsed) → parse b ≡ read p → (answer .number ≡ noOrder) ↔ ((order : List ℕ) → Plays (p .recording .bodies) order → ⊥)
     pub held-up : (p : Parsed) → parse b ≡ read p → answer .number ≡ noOrder → HeldUp p (answer .task) (answer .offset)

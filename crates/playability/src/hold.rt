@@ -15,7 +15,7 @@ use pending::TaskRun;
 use pending::next::dones_of;
 use pending::next::look_at;
 
-pub(crate) enum Hold {
+pub enum Hold {
     Free,
     Held { task: usize, offset: usize },
 }

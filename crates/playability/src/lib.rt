@@ -8,7 +8,7 @@ use codec::number::NO_ORDER;
 use codec::number::NO_ROOM;
 use scheduler::schedule::schedule;
 
-mod hold;
+pub mod hold;
 pub mod settle;
 
 // The number; the offset of the record that is refused or, with 18, of the ordering that is not met; with 18 the task that is held; the

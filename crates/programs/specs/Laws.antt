@@ -1,6 +1,7 @@
 -- The laws of this crate's definitions. All of them are proved; a reader does not have to trust anything here.
 pub mod BothProved
 pub mod Numbered
+pub mod PlayableProved
 pub mod Ran
 pub mod WholeAnswer
 pub mod WholeRecording

@@ -1,4 +1,5 @@
 pub mod Both
+pub mod Playable
 pub mod Wanted
 pub mod WholeRecording
 pub mod Wrong

@@ -9,8 +9,8 @@ pub mod Laid
 pub mod Layout
 pub mod LocateCode
 pub mod Located
+pub mod Numbered
 pub mod OneByOne
-pub mod Positive
 pub mod Roundtrip
 pub mod Section
 pub mod SectionCode

@@ -13,15 +13,15 @@ use Rattle.codec.specs.Laws.Store.{store-none}
 use Rattle.reader.specs.Calls.{bodySpan, bodyPart, bodyChecked}
 use Rattle.reader.specs.Parse.{Parsed, parse}
 use Rattle.entries.specs.Part.{part}
-use Rattle.reader.specs.Laws.Positive.{parse-positive}
+use Rattle.reader.specs.Laws.Numbered.{parse-numbered}
 use Rattle.entries.specs.Reading.{Reading, refused, read, stop}
-use Rattle.entries.specs.Laws.Reading.{Positive}
+use Rattle.entries.specs.Laws.Reading.{Numbered}
 use Rattle.linked.specs.CopyOf.{refusedCopy, copied, copyOf}
 
 -- a body that is not refused
-accepted : (r : Reading Parsed) (task : ℕ) → Positive r → bodyChecked r task .number ≡ 0 → bodyChecked r task ≡ stop 0 0
+accepted : (r : Reading Parsed) (task : ℕ) → Numbered r → bodyChecked r task .number ≡ 0 → bodyChecked r task ≡ stop 0 0
 unfolding bodyChecked
-accepted (refused c) task p e = absurd (omega arith)
+accepted (refused c) task p e = absurd (omega (arith, p .0))
 accepted (read p) task q e = elim (split (ltb task (p .recording .tasks))) [
   | passes t ↦ rw t
   | fails t ↦ absurd (let z : 5 ≡ 0 = rw t at e in omega arith)
@@ -40,7 +40,7 @@ copied-none : (b : List ℕ) (task : ℕ) (body out : List ℕ) → length body 
     → copied (bodyChecked (parse b) task) body out ≡ refusedCopy (bodyChecked (parse b) task) out
 unfolding copied
 copied-none b task [] out h = elim (split (eqb (bodyChecked (parse b) task .number) 0)) [
-  | passes p ↦ rw (accepted (parse b) task (parse-positive b) (eqb-true _ _ p), store-none, le-ltb (length out) 0 (omega arith))
+  | passes p ↦ rw (accepted (parse b) task (parse-numbered b) (eqb-true _ _ p), store-none, le-ltb (length out) 0 (omega arith))
   | fails p ↦ rw p
 ]
 copied-none b task (x ∷ body) out h = absurd (omega arith)

@@ -12,15 +12,15 @@ use Rattle.entries.specs.Reading.{stop, Reading, refused, read}
 use Rattle.codec.specs.declared.Op.{Op}
 use Rattle.codec.specs.Laws.Decide.{passes, fails, split}
 use Rattle.codec.specs.Kind.{isAccess}
-use Rattle.codec.specs.Number.{inBody}
+use Rattle.codec.specs.Number.{inBody, ByReader}
 use Rattle.entries.specs.Bytes.{entryLength}
 use Rattle.entries.specs.Laws.Bytes.{entry-long}
 use Rattle.entries.specs.Laws.Entry.{entry-access}
 use Rattle.entries.specs.Laws.EntryCase.{Entered, entry-entered}
 use Rattle.entries.specs.Part.{part}
 use Rattle.entries.specs.Laws.Part.{part-length}
-use Rattle.entries.specs.Laws.Positive.{entry-positive}
-use Rattle.entries.specs.Laws.Reading.{Positive}
+use Rattle.entries.specs.Laws.Numbered.{entry-numbered}
+use Rattle.entries.specs.Laws.Reading.{Numbered}
 use Rattle.entries.specs.Recording.{Entry}
 use Rattle.pending.specs.declared.TaskRun.{TaskRun}
 use Rattle.pending.specs.declared.Run.{Run}
@@ -52,7 +52,7 @@ judged-open runs at (read e) o n h = elim (split (allMet runs (e .orderings))) [
   | fails p ↦ absurd (let y : Held ≡ Open o n = rw p at h in let z : _≡_ {A = ℕ} 0 1 = cc in omega arith)
 ]
 
-judged-refused : (runs : List TaskRun) (at : ℕ) (x : Reading Entry) (c : Checked) → Positive x → judged runs at x ≡ Refused c → 0 < c .number
+judged-refused : (runs : List TaskRun) (at : ℕ) (x : Reading Entry) (c : Checked) → Numbered x → judged runs at x ≡ Refused c → ByReader (c .number)
 unfolding judged
 judged-refused runs at (refused d) c p h = let e : d ≡ c = cc in rw (← e) p
 judged-refused runs at (read e) c p h = elim (split (allMet runs (e .orderings))) [
@@ -88,11 +88,11 @@ module _ (r : Run) (b : List ℕ) (t : ℕ) where
       let e = w .next in
       (omega arith, omega arith)
 
-  -- a refusal's number is never 0
-  pub next-positive : (c : Checked) → nextOf r b t ≡ Refused c → 0 < c .number
+  -- a refusal's number is one of the reader's
+  pub next-numbered : (c : Checked) → nextOf r b t ≡ Refused c → ByReader (c .number)
   unfolding nextOf entryNext
-  next-positive c h = judged-refused (r .runs) (taskAt (r .runs) t .place) (entryNext r b t) c
-      (entry-positive (limitsOf r t) (stop inBody (taskAt (r .runs) t .place)) (taskAt (r .runs) t .place) (part (taskAt (r .runs) t .place) (taskAt (r .runs) t .end) b) (omega arith)) h
+  next-numbered c h = judged-refused (r .runs) (taskAt (r .runs) t .place) (entryNext r b t) c
+      (entry-numbered (limitsOf r t) (stop inBody (taskAt (r .runs) t .place)) (taskAt (r .runs) t .place) (part (taskAt (r .runs) t .place) (taskAt (r .runs) t .end) b) (omega arith, omega arith)) h
 
 -- an entry that was read may be done exactly if its orderings are met
 pub open-met : (runs : List TaskRun) (at : ℕ) (x : Reading Entry) (e : Entry) → x ≡ read e → isOpen (judged runs at x) ≡ allMet runs (e .orderings)

@@ -58,7 +58,7 @@ sum-bodies bodies zero h = refl
 sum-bodies bodies (suc n) h = omega (arith, accesses-on bodies n h, sum-bodies bodies n (omega arith))
 
 -- an allowed order names tasks of the recording only
-allowed-below : (bodies : List (List Entry)) (order : List ℕ) → Allowed bodies order → (i : ℕ) → i < length order → getD order i 0 < length bodies
+pub allowed-below : (bodies : List (List Entry)) (order : List ℕ) → Allowed bodies order → (i : ℕ) → i < length order → getD order i 0 < length bodies
 allowed-below bodies order a i h = elim (decLt (getD order i 0) (length bodies)) [
   | yes k ↦ k
   | no k ↦ absurd (omega (arith, a i h .left, ap length (List·getD-eq-default bodies [] {n = getD order i 0} (omega (arith, k)))))

@@ -7,7 +7,7 @@ use native.Mathlib.Nat.{add-zero}
 use native.Mathlib.Numerals.{add-one}
 use native.Mathlib.Omega.{arith}
 use borrow.Author.Tests.{lt-ltb, le-ltb}
-use Rattle.codec.specs.Laws.Decide.{passes, fails, split}
+use Rattle.codec.specs.Laws.Decide.{passes, fails, split, never}
 use Rattle.entries.specs.declared.Limits.{Limits}
 use Rattle.pending.specs.declared.Run.{Run}
 use Rattle.pending.specs.declared.TaskRun.{TaskRun}
@@ -70,3 +70,10 @@ module _ (b : List ℕ) (r : Run) where
 
   pub hold-is : HoldIs b r 0 (r .tasks) (holdOf b r)
   hold-is = hold-from 0 (r .tasks)
+
+  -- no task has accesses left
+  pub hold-free : ((t : ℕ) → t < r .tasks → hasLeft r t ≡ false) → holdOf b r ≡ Free
+  hold-free g = elim hold-is [
+    | held t h l k f ↦ absurd (let e : 0 + t ≡ t = omega arith in never (hasLeft r t) (rw e at l) (g t h))
+    | free k f ↦ f
+  ]

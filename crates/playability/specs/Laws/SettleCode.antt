@@ -69,7 +69,7 @@ module _ (b : List ℕ) (l : Layout) (e : l ≡ layoutOf (parse b)) (r : Run) (f
 
   pub settle-plays : Bytes b → l .number ≡ 0 → (soundOf r (length b) ≡ true) × (leftOver r < 18446744073709551616)
   settle-plays by z = elim (located b l e) [
-    | away c q n o p ↦ absurd (omega arith)
+    | away c q n o p ↦ absurd (omega (arith, p .0))
     | found p q n o ↦ let y : r ≡ openedRun p = f ∙ begun-opened b p l e q in rw y (opened-stands b p q .sound, opened-few b p by q)
   ]
 
@@ -77,6 +77,6 @@ module _ (b : List ℕ) (l : Layout) (e : l ≡ layoutOf (parse b)) (r : Run) (f
       → record { number = 0; offset = 0; start = r; run = q; steps = steps } ≡ settleOf b
   unfolding settleOf settledIn
   settle-read z q steps g k = elim (located b l e) [
-    | away c x n o p ↦ absurd (omega arith)
+    | away c x n o p ↦ absurd (omega (arith, p .0))
     | found p x n o ↦ let y : r ≡ openedRun p = f ∙ begun-opened b p l e x in rw (g, k, x, y)
   ]

@@ -19,7 +19,7 @@ use Rattle.entries.specs.Laws.AccessCount.{accessesIn}
 use Rattle.entries.specs.Reading.{Reading, refused, read}
 use Rattle.entries.specs.Recording.{Entry, noEntry}
 use Rattle.history.specs.Closed.{Met}
-use Rattle.reader.specs.Laws.Positive.{parse-positive}
+use Rattle.reader.specs.Laws.Numbered.{parse-numbered}
 use Rattle.reader.specs.Parse.{Parsed, parse}
 use Rattle.pending.specs.declared.Run.{Run}
 use Rattle.pending.specs.declared.TaskRun.{TaskRun}
@@ -34,10 +34,11 @@ use Rattle.playability.specs.declared.hold.Hold.{Hold}
 use Rattle.playability.specs.declared.hold.Hold.the-variants.{Free}
 use Rattle.playability.specs.Hold.{offsetIn, holdOf}
 use Rattle.playability.specs.Order.{times, bodyOf, Allowed, Plays, LowestFirst, StaysHeld}
-use Rattle.playability.specs.PlayableOf.{PlayableOutcome, refusedPlayable, onHold, playableIn, playableOf}
+use Rattle.playability.specs.PlayableOf.{PlayableOutcome, refusedPlayable}
 use Rattle.playability.specs.Statement.{HeldUp, answer, after, Answers}
 use Rattle.playability.specs.Laws.Counted.{plays-length}
 use Rattle.playability.specs.Laws.Held.{HoldIs, held, free, hold-is}
+use Rattle.playability.specs.Laws.PlayableOf.{bytes-refused, task-held, output-short, order-fits}
 use Rattle.playability.specs.Laws.Order.{Stops, most-done, never-more}
 use Rattle.playability.specs.Laws.Walk.{Reached, startAt, order-reached, order-stops}
 
@@ -120,7 +121,7 @@ module _ (b : List ℕ) (p : Parsed) (e : parse b ≡ read p) where
   beyond : (t : ℕ) → stood .tasks ≤ t → length (bodyOf bodies t) ≡ 0
   beyond t h = ap length (List·getD-eq-default bodies [] {n = t} (omega (arith, reached .each, h)))
 
-  free-plays : ((t : ℕ) → t < stood .tasks → hasLeft stood t ≡ false) → Plays bodies order
+  pub free-plays : ((t : ℕ) → t < stood .tasks → hasLeft stood t ≡ false) → Plays bodies order
   free-plays g = record {
     allowed = reached .allowed;
     whole = λ t. elim (decLt t (stood .tasks)) [
@@ -177,36 +178,28 @@ data Result (b out : List ℕ) (p : Parsed) : Type 0 where
       → Plays (p .recording .bodies) order → LowestFirst (p .recording .bodies) order → accessesIn (p .recording .bodies) ≤ length out → Result b out p
 
 module _ (b out : List ℕ) (p : Parsed) (e : parse b ≡ read p) where
-  outcome : (k : Hold) → holdOf b (stood b p e) ≡ k → playableOf b out ≡ onHold (order b p e) out k
-  unfolding playableOf playableIn
-  outcome k f = rw (e, f)
-
   -- no task has accesses left: the output is long enough, or not
-  with-order : Plays (p .recording .bodies) (order b p e) → playableOf b out ≡ onHold (order b p e) out Free → Result b out p
-  unfolding onHold
+  with-order : Plays (p .recording .bodies) (order b p e) → holdOf b (stood b p e) ≡ Free → Result b out p
   with-order x f =
       let n = plays-length (p .recording .bodies) (order b p e) x in
-      elim (split (ltb (length out) (length (order b p e)))) [
-        | passes q ↦
-            let k = rw q at f in
-            short (order b p e) (ap (λ (o : PlayableOutcome). o .answer) k) (ap (λ (o : PlayableOutcome). o .out) k) x
-            (omega (arith, n, ltb-true (length out) (length (order b p e)) q))
-        | fails q ↦
-            let k = rw q at f in
-            room (order b p e) (rw n at (ap (λ (o : PlayableOutcome). o .answer) k)) (ap (λ (o : PlayableOutcome). o .out) k) x (reached b p e .lowest)
-            (omega (arith, n, ltb-false (length out) (length (order b p e)) q))
+      elim (decLt (length out) (length (order b p e))) [
+        | yes q ↦
+            let k = output-short b out p e f q in
+            short (order b p e) (ap (λ (o : PlayableOutcome). o .answer) k) (ap (λ (o : PlayableOutcome). o .out) k) x (omega (arith, n))
+        | no q ↦
+            let k = order-fits b out p e f (omega (arith, q)) in
+            room (order b p e) (rw n at (ap (λ (o : PlayableOutcome). o .answer) k)) (ap (λ (o : PlayableOutcome). o .out) k) x (reached b p e .lowest) (omega (arith, n, q))
       ]
 
   result : Result b out p
-  unfolding onHold
   result = elim (hold-is b (stood b p e)) [
     | held t h l g f ↦
         let z : 0 + t ≡ t = omega arith in
-        let k = outcome _ f in
         let m : hasLeft (stood b p e) t ≡ true = rw z at l in
+        let k = task-held b out p e _ _ f in
         none (0 + t) _ (ap (λ (o : PlayableOutcome). o .answer) k) (ap (λ (o : PlayableOutcome). o .out) k)
         (rw z (held-up b p e t h m (λ u j. let y : 0 + u ≡ u = omega arith in rw y at (g u j)))) (held-none b p e t h m)
-    | free g f ↦ with-order (free-plays b p e (λ t h. let y : 0 + t ≡ t = omega arith in rw y at (g t h))) (outcome _ f)
+    | free g f ↦ with-order (free-plays b p e (λ t h. let y : 0 + t ≡ t = omega arith in rw y at (g t h))) f
   ]
 
 -- an answer has one number
@@ -217,12 +210,8 @@ number-of : {x y : Playability} → x ≡ y → x .number ≡ y .number
 number-of e = ap (λ (o : Playability). o .number) e
 
 module _ (b out : List ℕ) where
-  away : (c : Checked) → parse b ≡ refused c → playableOf b out ≡ record { answer = refusedPlayable (c .number) (c .offset) 0; out = out }
-  unfolding playableOf playableIn
-  away c e = rw e
-
   kept : (x : Reading Parsed) → parse b ≡ x → (answer b out .number ≡ 0 → ⊥) → (after b out ≡ out) × (answer b out .steps ≡ 0)
-  kept (refused c) e z = (ap (λ (o : PlayableOutcome). o .out) (away c e), ap (λ (o : PlayableOutcome). o .answer .steps) (away c e))
+  kept (refused c) e z = (ap (λ (o : PlayableOutcome). o .out) (bytes-refused b out c e), ap (λ (o : PlayableOutcome). o .answer .steps) (bytes-refused b out c e))
   kept (read p) e z = elim (result b out p e) [
     | none t o a k h n ↦ (k, ap (λ (x : Playability). x .steps) a)
     | short order a k x l ↦ (k, ap (λ (x : Playability). x .steps) a)
@@ -231,7 +220,7 @@ module _ (b out : List ℕ) where
 
   pub playable-answers : Answers b out
   playable-answers = record {
-    bytes-first = λ c e. ap (λ (o : PlayableOutcome). o .answer) (away c e);
+    bytes-first = λ c e. (ap (λ (o : PlayableOutcome). o .answer) (bytes-refused b out c e), rw e at (parse-numbered b));
     no-order = λ p e. elim (result b out p e) [
       | none t o a k h n ↦ (λ z. n, λ f. number-of a)
       | short order a k x l ↦ (λ z. absurd (clash (number-of a) z (λ y. omega arith)), λ f. absurd (f order x))

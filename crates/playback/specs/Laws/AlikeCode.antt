@@ -35,7 +35,7 @@ module _ (b c m n : List ℕ) (l : Layout) (e : l ≡ layoutOf (parse b)) where
     pub second-away : (k .number ≡ 0 → ⊥) → refusing (k .number) (k .offset) m n ≡ sameOutcomeOf b c m n
     unfolding sameOutcomeOf compared
     second-away y = elim (located b l e) [
-      | away d q i o p ↦ absurd (omega arith)
+      | away d q i o p ↦ absurd (omega (arith, p .0))
       | found p q i o ↦ elim (located c k f) [ away d g j u v ↦ rw (q, g, j, u) | found d g j u ↦ absurd (y j) ]
     ]
 
@@ -43,9 +43,9 @@ module _ (b c m n : List ℕ) (l : Layout) (e : l ≡ layoutOf (parse b)) where
       pub first-entries : (length m ≡ l .objects → ⊥) → refusing wrongLength 0 m n ≡ sameOutcomeOf b c m n
       unfolding sameOutcomeOf compared
       first-entries h = elim (located b l e) [
-        | away d q i o p ↦ absurd (omega arith)
+        | away d q i o p ↦ absurd (omega (arith, p .0))
         | found p q i o ↦ elim (located c k f) [
-          | away d g j u v ↦ absurd (omega arith)
+          | away d g j u v ↦ absurd (omega (arith, v .0))
           | found d g j u ↦ rw (q, g, ne-eqb (length m) (length (p .recording .owners)) (λ w. h (w ∙ sym o)))
         ]
       ]
@@ -54,9 +54,9 @@ module _ (b c m n : List ℕ) (l : Layout) (e : l ≡ layoutOf (parse b)) where
         pub second-entries : (length n ≡ k .objects → ⊥) → refusing wrongLength 0 m n ≡ sameOutcomeOf b c m n
         unfolding sameOutcomeOf compared
         second-entries h = elim (located b l e) [
-          | away d q i o p ↦ absurd (omega arith)
+          | away d q i o p ↦ absurd (omega (arith, p .0))
           | found p q i o ↦ elim (located c k f) [
-            | away d g j u v ↦ absurd (omega arith)
+            | away d g j u v ↦ absurd (omega (arith, v .0))
             | found d g j u ↦ rw (q, g, eq-eqb (length m) (length (p .recording .owners)) (x ∙ o), ne-eqb (length n) (length (d .recording .owners)) (λ w. h (w ∙ sym u)))
           ]
         ]
@@ -64,9 +64,9 @@ module _ (b c m n : List ℕ) (l : Layout) (e : l ≡ layoutOf (parse b)) where
         pub both-play : length n ≡ k .objects → comparing (playOf b m) (playOf c n) ≡ sameOutcomeOf b c m n
         unfolding sameOutcomeOf compared
         both-play h = elim (located b l e) [
-          | away d q i o p ↦ absurd (omega arith)
+          | away d q i o p ↦ absurd (omega (arith, p .0))
           | found p q i o ↦ elim (located c k f) [
-            | away d g j u v ↦ absurd (omega arith)
+            | away d g j u v ↦ absurd (omega (arith, v .0))
             | found d g j u ↦ rw (q, g, eq-eqb (length m) (length (p .recording .owners)) (x ∙ o), eq-eqb (length n) (length (d .recording .owners)) (h ∙ u))
           ]
         ]

@@ -15,21 +15,17 @@ use Rattle.history.specs.Replay.{oneMore}
 use Rattle.codec.specs.Bit.{bit}
 use Rattle.reader.specs.Parse.{Parsed, parse}
 use Rattle.entries.specs.Reading.{read as reads}
-use Rattle.entries.specs.Recording.{Recording}
 use Rattle.replayer.specs.declared.Stepped.{Stepped}
-use Rattle.scheduler.specs.Finish.{Play, finishedOf}
-use Rattle.scheduler.specs.Laws.Finish.{Playing}
-use Rattle.replayer.specs.Laws.OpenOf.{opened-stands, open-accepts}
-use Rattle.replayer.specs.OpenOf.{openedRun, openOf}
+use Rattle.scheduler.specs.Finish.{Play}
+use Rattle.replayer.specs.OpenOf.{openedRun}
 use Rattle.scheduler.specs.Schedule.{scheduleOf, playedBy}
-use Rattle.replayer.specs.ReadyOf.{readyOf}
-use Rattle.scheduler.specs.Laws.Schedule.{AllTaken as AllTakenBy, schedule-taken, schedule-ends}
+use Rattle.scheduler.specs.Laws.Schedule.{AllTaken as AllTakenBy, schedule-taken}
 use Rattle.replayer.specs.StepOf.{stepOf}
-use Rattle.fidelity.specs.Bench.{Bench, benchOf, stepped, steppedAll, takes, tally, tallyOf, AllTaken}
+use Rattle.fidelity.specs.Bench.{Bench, benchOf, stepped, steppedAll, takes, tallyOf, AllTaken}
 use Rattle.fidelity.specs.Box.{Opening, Asked, lastBox, recorded, recordingOf, recordingBy}
-use Rattle.fidelity.specs.Laws.BoxMatches.{owner-each}
+use Rattle.fidelity.specs.Laws.LowestFirst.{box-playing, box-bench, box-ends, box-all-done, box-steps, box-finished}
 use Rattle.fidelity.specs.Statement.{Accepted, Shows, Faithful, after, done}
-use Rattle.fidelity.specs.Laws.Theorem.{demand-3, run-finished}
+use Rattle.fidelity.specs.Laws.Theorem.{demand-3}
 use Rattle.script.specs.RecordOf.{recordOf}
 use Rattle.replay_lines.specs.Lines.{lineOf}
 use Rattle.transcript.specs.Laws.Text.{text-of-steps}
@@ -44,18 +40,6 @@ unfolding lineOf accessLine
 line-shows t k s (read object value) e (kind, o, v) = rw (e, kind, o, v)
 line-shows t k s (write object value) e (kind, o, v) = rw (e, write-no-read (s .kind) kind, o, v)
 line-shows t k s (acquire number) e w = absurd w
-
--- a play is the bench after the same steps
-play-bench : (b : List ℕ) (x : Play) (steps : List ℕ) → record { run = playedBy b x steps .run; memory = playedBy b x steps .memory } ≡ steppedAll b (record { run = x .run; memory = x .memory }) steps
-unfolding playedBy steppedAll
-play-bench b x [] = refl
-play-bench b x (t ∷ steps) = play-bench b _ steps
-
--- every taken step is counted for its task
-taken-tally : (b : List ℕ) (x : Play) (steps : List ℕ) → AllTakenBy b x steps → tally b (record { run = x .run; memory = x .memory }) steps ≡ length steps
-unfolding AllTakenBy tally
-taken-tally b x [] w = refl
-taken-tally b x (t ∷ steps) w = rw (eq-eqb _ _ (w .0)) (omega (arith, taken-tally b _ steps (w .1)))
 
 after-more : (b : List ℕ) (x : Bench) (steps : List ℕ) (t : ℕ) → steppedAll b x (steps ++ (t ∷ [])) ≡ stepped b (steppedAll b x steps) t
 unfolding steppedAll
@@ -109,38 +93,16 @@ module _ (o : Opening) (asked : List Asked) (outs : ℕ → List ℕ) (lent : Li
   abbrev steps : List ℕ
   steps = scheduleOf b (openedRun p)
 
-  playing : Playing b start
-  playing = let s = opened-stands b p e in record { sound = s .sound; shaped = s .shaped; entries = s .values }
-
-  opens : openOf b lent ≡ record { answer = record { number = 0; offset = 0; run = openedRun p }; memory = p .recording .values }
-  opens = open-accepts b lent p e (each ∙ sym (owner-each o (a .opened)) ∙ sym (ap (λ (r : Recording). length (r .owners)) same))
-
-  first-is : benchOf b lent ≡ record { run = openedRun p; memory = p .recording .values }
-  first-is = rw opens
-
-  ends-as : record { run = playedBy b start steps .run; memory = playedBy b start steps .memory } ≡ after o asked outs lent steps
-  ends-as = play-bench b start steps ∙ ap (λ (x : Bench). steppedAll b x steps) (sym first-is)
-
-  all-taken : tally b (benchOf b lent) steps ≡ length steps
-  all-taken = rw first-is (taken-tally b start steps (schedule-taken b start playing))
-
-  all-done : tally b (benchOf b lent) steps ≡ length (recorded o asked)
-  all-done = demand-3 o asked outs lent a .stops-at-end steps .0 (ap (λ (x : Bench). readyOf (x .run) b .word) (sym ends-as) ∙ schedule-ends b start playing)
-
   pub shown-lines : Lines (recorded o asked) (λ t. 0) steps (linesOf b (openedRun p) (p .recording .values) steps)
   unfolding tallyOf steppedAll
   shown-lines =
-      subst (λ (x : Bench). Lines (recorded o asked) (λ t. 0) steps (linesOf b (x .run) (x .memory) steps)) first-is
-      (lines-all o asked outs lent (demand-3 o asked outs lent a) [] steps (rw first-is (bench-taken b start steps (schedule-taken b start playing))))
-
-  pub shown-count : length steps ≡ length (recorded o asked)
-  shown-count = sym all-taken ∙ all-done
-
-  pub shown-finished : finishedOf (playedBy b start steps .run) ≡ true
-  shown-finished = ap (λ (x : Bench). finishedOf (x .run)) ends-as ∙ run-finished o asked outs lent a steps all-done
+      subst (λ (x : Bench). Lines (recorded o asked) (λ t. 0) steps (linesOf b (x .run) (x .memory) steps)) (box-bench o asked outs lent a each p e same)
+      (lines-all o asked outs lent (demand-3 o asked outs lent a) [] steps (rw (box-bench o asked outs lent a each p e same) (bench-taken b start steps (schedule-taken b start (box-playing o asked outs lent a each p e same)))))
 
   pub shown-memory : playedBy b start steps .memory ≡ lastBox o asked .memory
-  shown-memory = ap (λ (x : Bench). x .memory) ends-as ∙ demand-3 o asked outs lent a .end-memory steps all-done
+  shown-memory =
+      ap (λ (x : Bench). x .memory) (box-ends o asked outs lent a each p e same)
+      ∙ demand-3 o asked outs lent a .end-memory steps (box-all-done o asked outs lent a each p e same)
 
 pub both : (text : List ℕ) → recordOf text .line ≡ 0 → Shown text
 both text z =
@@ -151,7 +113,7 @@ both text z =
     let each : length lent ≡ o .objects = length-replicate {A = ℕ} (o .objects) 0 in
     let a = w .accepted lent each in
     let (p, e, same) = demand-3 o (w .asked) outs lent a .reads-back in
-    let n = shown-count o (w .asked) outs lent a each p e same in
+    let n = box-steps o (w .asked) outs lent a each p e same in
     let t = text-of-steps (recordingOf o (w .asked) outs) p (rw (w .is) at (w .short)) e in
     record {
       opening = o;
@@ -162,5 +124,5 @@ both text z =
       step-each = n ∙ w .counted;
       lines = linesOf (recordingOf o (w .asked) outs) (openedRun p) (p .recording .values) (scheduleOf (recordingOf o (w .asked) outs) (openedRun p));
       line-each = shown-lines o (w .asked) outs lent a each p e same;
-      is = rw (w .is, t, shown-finished o (w .asked) outs lent a each p e same, shown-memory o (w .asked) outs lent a each p e same, n, w .counted, w .left);
+      is = rw (w .is, t, box-finished o (w .asked) outs lent a each p e same, shown-memory o (w .asked) outs lent a each p e same, n, w .counted, w .left);
     }

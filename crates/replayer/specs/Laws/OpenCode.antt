@@ -14,11 +14,11 @@ use Rattle.reader.specs.Calls.{noSpan}
 use Rattle.reader.specs.Laws.Laid.{Laid, laid-read, laid-refused, Valued, parse-valued}
 use Rattle.reader.specs.Layout.{layoutOf}
 use Rattle.reader.specs.Parse.{Parsed, parse}
-use Rattle.reader.specs.Laws.Positive.{parse-positive}
+use Rattle.reader.specs.Laws.Numbered.{parse-numbered}
 use Rattle.entries.specs.Reading.{Reading, refused, read}
 use Rattle.reader.specs.Starting.{startingIn}
 use Rattle.reader.specs.Laws.Starting.{starting-there}
-use Rattle.codec.specs.Number.{entries as wrongLength}
+use Rattle.codec.specs.Number.{entries as wrongLength, ByReader}
 use Rattle.codec.specs.Limit.{maxTasks}
 use Rattle.pending.specs.Run.{blankTasks}
 use Rattle.replayer.specs.Laws.OpenOf.{starts-length}
@@ -85,8 +85,8 @@ module _ (b memory : List ℕ) (l : Layout) (e : l ≡ layoutOf (parse b)) where
       go : (x : Reading Parsed) → parse b ≡ x → Refusing b memory wrongLength 0
       go (refused c) q = absurd (
           let n : l .number ≡ c .number = rw (e, q) (laid-refused c .0) in
-          let p : 0 < c .number = rw q at (parse-positive b) in
-          omega arith)
+          let p : ByReader (c .number) = rw q at (parse-numbered b) in
+          omega (arith, p .0))
       go (read p) q =
           let o : l .objects ≡ length (p .recording .owners) = rw e (laid-read b p q .objects) in
           let d = ne-eqb (length memory) (length (p .recording .owners)) (λ k. h (k ∙ sym o)) in
@@ -99,8 +99,8 @@ module _ (b memory : List ℕ) (l : Layout) (e : l ≡ layoutOf (parse b)) where
       go : (x : Reading Parsed) → parse b ≡ x → Opening b memory l
       go (refused c) q = absurd (
           let n : l .number ≡ c .number = rw (e, q) (laid-refused c .0) in
-          let p : 0 < c .number = rw q at (parse-positive b) in
-          omega arith)
+          let p : ByReader (c .number) = rw q at (parse-numbered b) in
+          omega (arith, p .0))
       go (read p) q =
           let w : Laid p l = rw e (laid-read b p q) in
           let v : Valued b p = parse-valued b p q in

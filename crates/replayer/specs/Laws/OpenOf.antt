@@ -15,11 +15,11 @@ use Rattle.reader.specs.declared.Span.{Span}
 use Rattle.reader.specs.Calls.{noSpan}
 use Rattle.reader.specs.Laws.Laid.{values-count, Valued, parse-valued}
 use Rattle.reader.specs.Parse.{Parsed, parse}
-use Rattle.reader.specs.Laws.Positive.{parse-positive}
+use Rattle.reader.specs.Laws.Numbered.{parse-numbered}
 use Rattle.entries.specs.Reading.{Reading, refused, read}
 use Rattle.reader.specs.Laws.Standing.{Standing, parse-stands}
 use Rattle.pending.specs.declared.TaskRun.{TaskRun}
-use Rattle.codec.specs.Number.{entries as wrongLength}
+use Rattle.codec.specs.Number.{entries as wrongLength, ByReader}
 use Rattle.codec.specs.Limit.{maxTasks}
 use Rattle.pending.specs.Run.{blankTask, blankTasks, taskAt, doneOf}
 use Rattle.pending.specs.Sound.{soundOf}
@@ -109,8 +109,8 @@ open-accepted b memory h = go (parse b) refl
     go : (x : Reading Parsed) → parse b ≡ x → Opens b memory
     go (refused c) q = absurd (
         let n : c .number ≡ 0 = rw q at h in
-        let z : 0 < c .number = rw q at (parse-positive b) in
-        omega arith)
+        let z : ByReader (c .number) = rw q at (parse-numbered b) in
+        omega (arith, z .0))
     go (read p) q = elim (split (eqb (length memory) (length (p .recording .owners)))) [
       | passes d ↦ record { parsed = p; reads = q; entries = eqb-true _ _ d }
       | fails d ↦ absurd (let z : _≡_ {A = ℕ} wrongLength 0 = rw (q, d) at h in omega arith)

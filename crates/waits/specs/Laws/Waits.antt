@@ -49,6 +49,12 @@ pub waits-on : (b : List ℕ) (r : Run) (t : ℕ) → waitsIn b r (t + 1) ≡ wa
 unfolding waitsIn
 waits-on b r t = rw add-one
 
+-- no task has accesses left
+pub waits-nothing : (b : List ℕ) (r : Run) (n : ℕ) → ((t : ℕ) → t < n → hasLeft r t ≡ false) → waitsIn b r n ≡ []
+unfolding waitsIn waitOf
+waits-nothing b r zero g = refl
+waits-nothing b r (suc n) g = rw (g n (omega arith), waits-nothing b r n (λ t h. g t (omega arith)))
+
 -- a task whose record, T, N and accesses done are what the code has
 module _ (b : List ℕ) (r : Run) (t : ℕ) (x : TaskRun) (m : Limits) (dones : List ℕ) (w : OneTask r t x m dones) where
   pub wait-done : x .count ≤ x .done → waitOf b r t ≡ []

@@ -1,0 +1,7 @@
+-- The laws of this crate's definitions. All of them are proved; a reader does not have to trust anything here.
+pub mod Answered
+pub mod Lines
+pub mod Reasons
+pub mod ReasonsEach
+pub mod Text
+pub mod TextBound

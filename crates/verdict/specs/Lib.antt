@@ -1,0 +1,4 @@
+pub mod Reasons
+pub mod Streams
+pub mod Text
+pub mod Laws
