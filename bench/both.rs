@@ -1,6 +1,7 @@
 //! One call each on both sides, with the same arguments and the same lent bytes: every field of the answer, and every buffer, state
 //! and run after the call, are compared. What was lent is left as the call leaves it.
 
+use crate::cases::Cases;
 use crate::ours::{self, Answer, State};
 use crate::peer::{number, reader, recorder, replayer};
 use crate::theirs;
@@ -38,10 +39,11 @@ fn same_answer(what: &str, ours: Answer, theirs: &[usize]) -> Same {
     same(what, ours, fields)
 }
 
-/// Counts the calls.
+/// Counts the calls, and the cases of `playable`.
 #[derive(Default)]
 pub struct Both {
     pub answers: u64,
+    pub cases: Cases,
 }
 
 impl Both {
@@ -242,6 +244,17 @@ impl Both {
         same_answer("same_outcome", ours, &fields)?;
         same_list("same_outcome's first memory", one, &one_2)?;
         same_list("same_outcome's second memory", two, &two_2)
+    }
+
+    pub fn playable(&mut self, bytes: &[u8], out: &mut [u8]) -> Same {
+        self.answers += 1;
+        let mut out_2 = out.to_vec();
+        let ours = ours::playable(bytes, out);
+        let theirs = theirs::playable(bytes, &mut out_2);
+        same_answer("playable", ours, &theirs)?;
+        same_list("playable's output", out, &out_2)?;
+        self.cases.count(bytes, out.len(), theirs);
+        Ok(())
     }
 
     /// From the opening to where it ends or sticks, in one call and step by step.

@@ -2,7 +2,7 @@
 //! damaged bytes in between.
 
 use crate::both::{Both, Same};
-use crate::inputs::objects_in;
+use crate::inputs::{accesses_in, objects_in};
 use crate::peer::{recorder, replayer};
 use crate::random::Random;
 
@@ -260,19 +260,50 @@ impl Script {
         self.compare(first, second)?;
         let twin = self.random.twin(first);
         self.compare(first, &twin)?;
-        self.compare(&twin, first)
+        self.compare(&twin, first)?;
+        self.playables(&all)
     }
 }
 
-/// Scripts of the seeds from `seed` on; says how many calls were compared and what differs first. False where any differ.
-pub fn run(seed: u64, count: u64) -> bool {
-    let (mut answers, mut differ) = (0, 0);
+/// Whether a recording can be played to the end.
+impl Script {
+    /// Into an output that is just long enough, one byte short, empty, longer, and any.
+    fn playable(&mut self, bytes: &[u8]) -> Same {
+        let steps = accesses_in(bytes);
+        let more = steps + 1 + self.random.below(20);
+        let any = self.random.below(2 * steps + 20);
+        for room in [steps, steps.saturating_sub(1), 0, more, any] {
+            let mut out = self.random.bytes(room);
+            self.both.playable(bytes, &mut out)?;
+        }
+        Ok(())
+    }
+
+    /// These, and others that are made to be playable or to stick; all with changed orderings too, and one damaged.
+    fn playables(&mut self, all: &[Vec<u8>]) -> Same {
+        let made = [(); 4].map(|()| self.random.planned_recording());
+        for bytes in all.iter().chain(&made) {
+            self.playable(bytes)?;
+            let mut bent = bytes.clone();
+            self.random.bend_orderings(&mut bent);
+            self.playable(&bent)?;
+        }
+        let [mut damaged, ..] = made;
+        self.random.damage(&mut damaged);
+        self.playable(&damaged)
+    }
+}
+
+/// Scripts of the seeds from `seed` on; says how many calls were compared and what differs first, and if asked how often each case of
+/// `playable` was reached. False where any differ.
+pub fn run(seed: u64, count: u64, cases: bool) -> bool {
+    let mut both = Both::default();
+    let mut differ = 0;
     for seed in seed..seed + count {
         let random = Random(seed);
-        let both = Both::default();
         let mut script = Script { random, both };
         let played = script.play();
-        answers += script.both.answers;
+        both = script.both;
         if let Err(what) = played {
             if differ == 0 {
                 println!("seed {seed}: {what}");
@@ -280,6 +311,9 @@ pub fn run(seed: u64, count: u64) -> bool {
             differ += 1;
         }
     }
-    println!("{count} scripts, {answers} answers, {differ} differ");
+    if cases {
+        both.cases.print();
+    }
+    println!("{count} scripts, {} answers, {differ} differ", both.answers);
     differ == 0
 }

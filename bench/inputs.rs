@@ -5,7 +5,7 @@ use crate::peer::{reader, replayer};
 use crate::random::Random;
 
 /// Fields of two bytes, least byte first.
-fn fields(numbers: &[usize]) -> Vec<u8> {
+pub fn fields(numbers: &[usize]) -> Vec<u8> {
     let bytes = numbers.iter().map(|&x| (x as u16).to_le_bytes());
     bytes.flatten().collect()
 }
@@ -16,6 +16,18 @@ pub fn objects_in(bytes: &[u8]) -> usize {
         [_, _, _, _, _, _, low, high, ..] => u16::from_le_bytes([*low, *high]).min(300).into(),
         _ => 0,
     }
+}
+
+/// The field of two bytes at this place.
+pub fn half_at(bytes: &[u8], at: usize) -> usize {
+    u16::from_le_bytes([bytes[at], bytes[at + 1]]).into()
+}
+
+/// How many accesses a recording has; 0 for bytes that do not read.
+pub fn accesses_in(bytes: &[u8]) -> usize {
+    reader::scan(bytes).map_or(0, |layout| {
+        layout.sections.iter().map(|s| s.accesses as usize).sum()
+    })
 }
 
 /// What an opening is given, and accesses, four numbers each: task, object, sort, value.

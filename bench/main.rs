@@ -1,11 +1,13 @@
 //! The proved library beside `peer.rs`, an implementation of the same calls from the papers. Both do the same work on the same bytes in
 //! this process: first a table of times, then random calls whose answers are compared.
 //!
-//! Arguments: the first script's seed and the number of scripts.
+//! Arguments: the first script's seed and the number of scripts; then `cases`, to see how often each case of `playable` was reached.
 
 mod both;
+mod cases;
 mod differ;
 mod inputs;
+mod orderings;
 mod ours;
 // The bench calls a part of it.
 #[allow(dead_code)]
@@ -21,8 +23,9 @@ fn main() {
         .collect();
     let seed = numbers.first().copied().unwrap_or(1);
     let count = numbers.get(1).copied().unwrap_or(12_000);
+    let cases = std::env::args().last().is_some_and(|word| word == "cases");
     table::print();
-    if !differ::run(seed, count) {
+    if !differ::run(seed, count, cases) {
         std::process::exit(1);
     }
 }

@@ -42,6 +42,7 @@ extern "C" {
     fn wk_step(places: &mut Places, bytes: *const u8, bytes_len: usize, memory: *mut u32, memory_len: usize, task: usize, answer: &mut Answer);
     fn wk_same_outcome(first: *const u8, first_len: usize, second: *const u8, second_len: usize,
         first_memory: *mut u32, first_memory_len: usize, second_memory: *mut u32, second_memory_len: usize, answer: &mut Answer);
+    fn wk_playable(bytes: *const u8, bytes_len: usize, out: *mut u8, out_len: usize, answer: &mut Answer);
     fn wk_script(tasks: usize, objects: usize, owners: *const u8, owners_len: usize, starts: *const u32, starts_len: usize,
         script: *const u32, script_len: usize, memory: *mut u32, memory_len: usize, out: *mut u8, out_len: usize) -> u64;
     fn wk_pack(halves: &Halves, words: &Words, logs: *const u8, logs_len: usize, ends: *const usize, ends_len: usize,
@@ -272,6 +273,21 @@ pub fn same_outcome(
             first_memory.len(),
             second_memory.as_mut_ptr(),
             second_memory.len(),
+            &mut answer,
+        )
+    }
+    answer
+}
+
+/// Number, offset, task and steps; the order goes to `out`.
+pub fn playable(bytes: &[u8], out: &mut [u8]) -> Answer {
+    let mut answer = [0; 6];
+    unsafe {
+        wk_playable(
+            bytes.as_ptr(),
+            bytes.len(),
+            out.as_mut_ptr(),
+            out.len(),
             &mut answer,
         )
     }

@@ -2,7 +2,8 @@
 //! between: an opening sets the memory, and what is written over is the same each time.
 
 use crate::both::Both;
-use crate::inputs::Script;
+use crate::inputs::{accesses_in, Script};
+use crate::orderings::slow;
 use crate::peer::{reader, recorder, replayer};
 use crate::random::Random;
 use crate::{ours, theirs};
@@ -80,17 +81,13 @@ fn best<const SIDES: usize>(mut sides: [&mut dyn FnMut() -> u64; SIDES]) -> [f64
     best
 }
 
-/// A row: the work, ours, theirs and the ratio; then the other way of theirs and the ratio to it.
+/// A row: the work, ours, theirs and the ratio; then what else there is.
 fn row(work: &str, unit: &str, scale: f64, times: &[f64], other: &str) {
     let [ours, theirs] = [times[0] * scale, times[1] * scale];
-    print!(
-        "{work:<34} {ours:>9.1} {theirs:>9.1} {unit:<3} {:>6.2}",
+    println!(
+        "{work:<34} {ours:>9.1} {theirs:>9.1} {unit:<3} {:>6.2}{other}",
         ours / theirs
     );
-    match times.get(2) {
-        Some(time) => println!("   {:>9.1} {:>6.2}  {other}", time * scale, times[0] / time),
-        None => println!(),
-    }
 }
 
 /// Accesses that are all accepted. With one object the tasks take it from each other, and seven accesses of eight write orderings
@@ -109,8 +106,14 @@ fn access_row(random: &mut Random, tasks: usize, objects: usize) {
         &mut || theirs::script::<false>(black_box(&script), &mut memory_3, &mut out_3),
     ]);
     let work = format!("access, N = {objects}, T = {tasks}");
-    let other = "without the whole-state check";
-    row(&work, "ns", 1e9 / count as f64, &times, other);
+    let scale = 1e9 / count as f64;
+    // The other way of theirs and the ratio to it.
+    let other = format!(
+        "   {:>9.1} {:>6.2}  without the whole-state check",
+        times[2] * scale,
+        times[0] / times[2]
+    );
+    row(&work, "ns", scale, &times, &other);
 }
 
 /// Many recordings, so that no branch predictor learns them: a call does all of them, and a figure is for one.
@@ -199,6 +202,43 @@ fn recording_rows(random: &mut Random, limit: usize, count: usize) {
     ]);
     assert!(memory == memory_2);
     row(&format!("replay by word, {size} bytes"), "us", scale, &times, "");
+
+    let all: Vec<&[u8]> = recordings.iter().map(|r| &r.bytes[..]).collect();
+    playable_row("playable", &all);
+}
+
+/// A figure is for one recording. The time for a byte shows whether it grows with the bytes alone.
+fn playable_row(work: &str, recordings: &[&[u8]]) {
+    let count = recordings.len();
+    let size = recordings.iter().map(|bytes| bytes.len()).sum::<usize>() / count;
+    let room = recordings.iter().map(|bytes| accesses_in(bytes)).max();
+    let mut out = vec![0; room.unwrap_or(0)];
+    let mut out_2 = out.clone();
+    let all = black_box(recordings);
+    let times = best([
+        &mut || {
+            all.iter()
+                .map(|bytes| ours::playable(bytes, &mut out).iter().sum::<usize>() as u64)
+                .sum()
+        },
+        &mut || {
+            all.iter()
+                .map(|bytes| theirs::playable(bytes, &mut out_2).iter().sum::<usize>() as u64)
+                .sum()
+        },
+    ]);
+    assert!(out == out_2);
+    let [ours, theirs] = times.map(|time| time * 1e9 / (count * size) as f64);
+    let other = format!("   {ours:>9.2} {theirs:>6.2}  ns for a byte, ours and theirs");
+    let work = format!("{work}, {size} bytes");
+    row(&work, "us", 1e6 / count as f64, &times, &other);
+}
+
+/// With `small` accesses of each task that has many, which is about 64 KiB, and with as many as a task can make.
+fn slow_rows(work: &str, small: usize, recording: impl Fn(usize) -> Vec<u8>) {
+    for each in [small, 65_535] {
+        playable_row(&format!("playable, {work}"), &[&recording(each)]);
+    }
 }
 
 pub fn print() {
@@ -213,4 +253,9 @@ pub fn print() {
     access_row(&mut random, 16, 256);
     recording_rows(&mut random, 65_535, 16);
     recording_rows(&mut random, 4_096, 256);
+    slow_rows("1 held", 271, |each| slow::held(1, each));
+    slow_rows("14 held", 271, |each| slow::held(14, each));
+    slow_rows("15 waiting", 8_100, slow::waiting);
+    slow_rows("in turn", 255, slow::in_turn);
+    slow_rows("stuck", 255, slow::stuck);
 }

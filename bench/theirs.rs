@@ -87,6 +87,13 @@ pub fn replay_to_end(bytes: &[u8], memory: &mut [u32]) -> [usize; 4] {
     [0, 0, played.steps, played.finished as usize]
 }
 
+/// Number, offset, task and steps.
+#[inline(never)]
+pub fn playable(bytes: &[u8], out: &mut [u8]) -> [usize; 4] {
+    let found = replayer::playable(bytes, out);
+    [found.number as usize, found.offset, found.task, found.steps]
+}
+
 /// The ready word before each step, as in the library.
 #[inline(never)]
 pub fn replay_by_word(bytes: &[u8], memory: &mut [u32]) -> u64 {
