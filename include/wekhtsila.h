@@ -69,6 +69,7 @@ extern "C" {
 #define WK_ERR_FINISHED 15    /* the task has no access left to play */
 #define WK_ERR_HELD 16        /* an ordering before the task's next access is not met yet */
 #define WK_ERR_UNSOUND 17     /* the state or run that was passed in is not one that the library made */
+#define WK_ERR_NO_ORDER 18    /* no order of all accesses keeps each task's own order and every ordering */
 #define WK_ERR_ENDS 21        /* wk_pack: the ends fall, pass the logs or are not one for each task */
 
 /* The sort of an access. */
@@ -220,6 +221,18 @@ size_t wk_schedule(const size_t places[WK_PLACES], const uint8_t *bytes, size_t 
 #define WK_REPLAY_TO_END_STEPS 2
 #define WK_REPLAY_TO_END_FINISHED 3 /* 1 or 0 */
 void wk_replay_to_end(const uint8_t *bytes, size_t bytes_len, uint32_t *memory, size_t memory_len, size_t answer[WK_ANSWER]);
+
+/*
+ * Whether a recording can be played to its end: whether there is an order of all accesses that keeps each task's own order and every
+ * ordering. If so, the one in which the lowest ready task always goes next is written to the start of `out`, a task a byte, a byte for
+ * each access; bytes_len / WK_READ_BYTES are always enough. Values play no part, so no memory is needed.
+ * Refused with what is wrong with the bytes (10 to 14), 18, 9 in this order.
+ */
+#define WK_PLAYABLE_NUMBER 0
+#define WK_PLAYABLE_OFFSET 1 /* where the record begins that fails, with 10 to 14, or the first ordering that holds the task, with 18 */
+#define WK_PLAYABLE_TASK 2   /* the lowest task that stays held, with 18 */
+#define WK_PLAYABLE_STEPS 3  /* steps of the order, one for each access */
+void wk_playable(const uint8_t *bytes, size_t bytes_len, uint8_t *out, size_t out_len, size_t answer[WK_ANSWER]);
 
 /*
  * Plays two recordings to their ends, each on a memory of its own, and says whether both finish with the same tasks, objects, steps

@@ -48,13 +48,15 @@ static void finished(void) { wk_finished(places, recording, size, answer); }
 static void schedule(void) { wk_schedule(places, recording, size, out, sizeof out); }
 static void step(void) { wk_step(places, recording, size, memory, OBJECTS, task, answer); }
 static void to_end(void) { wk_replay_to_end(recording, size, memory, OBJECTS, answer); }
+static void playable(void) { wk_playable(recording, size, out, sizeof out, answer); }
 static void same(void) { wk_same_outcome(recording, size, recording, size, memory, OBJECTS, memory_2, OBJECTS, answer); }
 
-enum { NONE, OPEN, ACCESS, SECTION, PACK, CHECK, BODY, BODY_CHECK, REPLAY_OPEN, READY, FINISHED, SCHEDULE, STEP, TO_END, SAME, CALLS };
+enum { NONE, OPEN, ACCESS, SECTION, PACK, CHECK, BODY, BODY_CHECK, REPLAY_OPEN, READY, FINISHED, SCHEDULE, STEP, TO_END, PLAYABLE,
+       SAME, CALLS };
 static const struct { const char *name; void (*run)(void); } calls[CALLS] = {
     {"", none}, {"wk_open", open_}, {"wk_access", access_}, {"wk_section", section}, {"wk_pack", pack}, {"wk_check", check},
     {"wk_body", body}, {"wk_body_check", body_check}, {"wk_replay_open", replay_open}, {"wk_ready", ready}, {"wk_finished", finished},
-    {"wk_schedule", schedule}, {"wk_step", step}, {"wk_replay_to_end", to_end}, {"wk_same_outcome", same}};
+    {"wk_schedule", schedule}, {"wk_step", step}, {"wk_replay_to_end", to_end}, {"wk_playable", playable}, {"wk_same_outcome", same}};
 static size_t deepest[CALLS];
 
 static void on_stack(int which)
@@ -81,6 +83,7 @@ static void read_all(void)
         on_stack(BODY_CHECK);
     }
     on_stack(TO_END);
+    on_stack(PLAYABLE);
     on_stack(SAME);
     on_stack(REPLAY_OPEN);
     on_stack(SCHEDULE);
@@ -126,6 +129,7 @@ int main(void)
         size = whole;
         recording[below(whole)] ^= 1 << below(8);
         on_stack(CHECK);
+        on_stack(PLAYABLE);
         on_stack(REPLAY_OPEN);
         on_stack(STEP);
     }

@@ -13,6 +13,7 @@ use Rattle.playback.specs.declared.finish.Completion.{Completion}
 use Rattle.replayer.specs.declared.Stepped.{Stepped}
 use Rattle.playback.specs.declared.alike.Compared.{Compared}
 use Rattle.playback.specs.declared.to_end.Replayed.{Replayed}
+use Rattle.playability.specs.declared.Playability.{Playability}
 use Rattle.codec.specs.Bit.{bit}
 use Rattle.replayer.specs.Word.{readyCount, lowestReady}
 use Rattle.linked.specs.CopyOf.{Copied}
@@ -53,3 +54,6 @@ sameNumbers a = a .number ∷ a .offset ∷ bit (a .alike) ∷ []
 
 abbrev pub toEndNumbers : Replayed → List ℕ
 toEndNumbers a = a .number ∷ a .offset ∷ a .steps ∷ bit (a .finished) ∷ []
+
+abbrev pub playableNumbers : Playability → List ℕ
+playableNumbers a = a .number ∷ a .offset ∷ a .task ∷ a .steps ∷ []

@@ -20,7 +20,8 @@ ghost use Rattle.scheduler.specs.Schedule.{scheduleFrom};
 ghost use Rattle.replayer.specs.StepOf.{stepOf};
 ghost use Rattle.playback.specs.Alike.{sameOutcomeOf};
 ghost use Rattle.playback.specs.ToEnd.{toEndOf};
-ghost use Rattle.linked.specs.Answers.{openNumbers, accessNumbers, sectionNumbers, checkNumbers, replayOpenNumbers, readyNumbers, finishedNumbers, stepNumbers, sameNumbers, toEndNumbers};
+ghost use Rattle.playability.specs.PlayableOf.{playableOf};
+ghost use Rattle.linked.specs.Answers.{openNumbers, accessNumbers, sectionNumbers, checkNumbers, replayOpenNumbers, readyNumbers, finishedNumbers, stepNumbers, sameNumbers, toEndNumbers, playableNumbers};
 ghost use Rattle.arrays.specs.Halves.{stateIn, halvesOf, wordsOf, movedTo};
 ghost use Rattle.arrays.specs.Places.{runIn, placesOf};
 use crate::answers::put_five;
@@ -30,6 +31,7 @@ use arrays::put_run;
 use arrays::put_state;
 use arrays::run_of;
 use arrays::state_of;
+use playability::playable;
 use playback::alike::same_outcome;
 use playback::finish::finished;
 use playback::to_end::replay_to_end;
@@ -238,4 +240,17 @@ pub extern "C" fn wk_replay_to_end(bytes: &[u8], memory: &mut [u32], answer: &mu
     answer[1] = r.offset;
     answer[2] = r.steps;
     answer[3] = r.finished as usize;
+}
+
+// No memory and no run: values play no part, and the call opens the recording itself.
+#[no_mangle]
+pub extern "C" fn wk_playable(bytes: &[u8], out: &mut [u8], answer: &mut [usize; 6])
+    ensures { λ _. ⌜ now (out .exit) ≡ playableOf (now (bytes .entry)) (now (out .entry)) .out ⌝ }
+    ensures { λ _. ⌜ now (answer .exit) ≡ store (now (answer .entry)) 0 (playableNumbers (playableOf (now (bytes .entry)) (now (out .entry)) .answer)) ⌝ }
+{
+    let r = playable(bytes, out);
+    answer[0] = r.number as usize;
+    answer[1] = r.offset;
+    answer[2] = r.task;
+    answer[3] = r.steps;
 }
