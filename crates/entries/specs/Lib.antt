@@ -1,3 +1,4 @@
+pub mod Accesses
 pub mod Answers
 pub mod Body
 pub mod Bytes

@@ -8,7 +8,7 @@ use Rattle.codec.specs.declared.Position.{Position}
 use Rattle.codec.specs.Number.{noRoom, noOrder, ByReader}
 use Rattle.codec.specs.Store.{store}
 use Rattle.entries.specs.declared.Checked.{Checked}
-use Rattle.entries.specs.Laws.AccessCount.{accessesIn}
+use Rattle.entries.specs.Accesses.{accessesIn}
 use Rattle.entries.specs.Reading.{refused, read}
 use Rattle.entries.specs.Recording.{Entry, noEntry}
 use Rattle.history.specs.Closed.{Met}

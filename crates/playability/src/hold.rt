@@ -15,6 +15,7 @@ use pending::TaskRun;
 use pending::next::dones_of;
 use pending::next::look_at;
 
+// No task has accesses left; or the one that is held and the offset of the ordering.
 pub enum Hold {
     Free,
     Held { task: usize, offset: usize },

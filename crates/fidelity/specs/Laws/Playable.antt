@@ -7,7 +7,7 @@ use native.Mathlib.Omega.{arith}
 use lib.ListN.{length, replicate, length-replicate}
 use Rattle.codec.specs.Laws.Decide.{passes, fails, split, never}
 use Rattle.codec.specs.Limit.{maxTasks}
-use Rattle.entries.specs.Laws.AccessCount.{accessesIn}
+use Rattle.entries.specs.Accesses.{accessesIn}
 use Rattle.pending.specs.Laws.All.{all-facts}
 use Rattle.pending.specs.Laws.Sound.{sound-facts}
 use Rattle.replayer.specs.Laws.Along.{along-opened}

@@ -7,7 +7,8 @@ use native.Mathlib.Omega.{arith}
 use borrow.Author.Tests.{eq-eqb, ne-eqb}
 use lib.ListN.{length, getD, take, List·getD-eq-default}
 use lib.Seq.{take-length}
-use Rattle.entries.specs.Laws.AccessCount.{accessesIn, accesses-on}
+use Rattle.entries.specs.Accesses.{accessesIn}
+use Rattle.entries.specs.Laws.AccessCount.{accesses-on}
 use Rattle.entries.specs.Recording.{Entry}
 use Rattle.playability.specs.Order.{times, bodyOf, Allowed, Plays}
 

@@ -15,7 +15,7 @@ use Rattle.codec.specs.Laws.Decide.{passes, fails, split}
 use Rattle.codec.specs.Number.{noRoom, noOrder}
 use Rattle.codec.specs.Store.{store}
 use Rattle.entries.specs.declared.Checked.{Checked}
-use Rattle.entries.specs.Laws.AccessCount.{accessesIn}
+use Rattle.entries.specs.Accesses.{accessesIn}
 use Rattle.entries.specs.Reading.{Reading, refused, read}
 use Rattle.entries.specs.Recording.{Entry, noEntry}
 use Rattle.history.specs.Closed.{Met}
