@@ -10,7 +10,7 @@ use Rattle.codec.specs.Store.{store}
 use Rattle.entries.specs.declared.Checked.{Checked}
 use Rattle.entries.specs.Accesses.{accessesIn}
 use Rattle.entries.specs.Reading.{refused, read}
-use Rattle.entries.specs.Recording.{Entry, noEntry}
+use Rattle.entries.specs.Recording.{noEntry}
 use Rattle.history.specs.Closed.{Met}
 use Rattle.reader.specs.Calls.{noSpan}
 use Rattle.reader.specs.Parse.{Parsed, parse}

@@ -25,6 +25,16 @@ pub struct Written {
     pub reasons: usize,
 }
 
+// Nothing on either stream.
+pub fn silent() -> Written
+    ensures { λ r. ⌜ r ≡ record { text = 0; reasons = 0 } ⌝ }
+{
+    Written {
+        text: 0,
+        reasons: 0,
+    }
+}
+
 // A buffer with a byte for each step.
 pub fn blank_order() -> [u8; MOST_STEPS]
     ensures { λ r. ⌜ Zeros mostSteps r ⌝ }

@@ -18,6 +18,7 @@ use replay_lines::LONGEST;
 use replay_lines::Written;
 use replay_lines::blank_order;
 use replay_lines::put_refusal;
+use replay_lines::silent;
 use text::put_bytes;
 use text::put_field;
 use waits::MOST_WAITS;
@@ -104,16 +105,10 @@ pub fn tell(bytes: &[u8], out: &mut [u8], why: &mut [u8]) -> Written
     ensures { λ r. ⌜ Counts (r .reasons) (now (why .exit)) ⌝ }
 {
     if out.len() < MOST {
-        return Written {
-            text: 0,
-            reasons: 0,
-        };
+        return silent();
     }
     if why.len() < MOST_WAITS {
-        return Written {
-            text: 0,
-            reasons: 0,
-        };
+        return silent();
     }
     if LONGEST < bytes.len() {
         let text = put_bytes(out, 0, b"long\n");

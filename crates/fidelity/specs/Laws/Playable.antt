@@ -1,12 +1,11 @@
 -- A box's own recording can be played to its end: from demand 3, by which a play of it ends with no access left.
 use mathlib.Core.Bool.{Bool, true, false, not}
 use mathlib.Core.List.{List}
-use mathlib.Core.Path.{_≡_, refl, sym, ap, _∙_}
-use Prim.Native.Nat.{ℕ, _≤_, _<_, min}
+use mathlib.Core.Path.{_≡_, refl, sym, _∙_}
+use Prim.Native.Nat.{ℕ, _<_}
 use native.Mathlib.Omega.{arith}
 use lib.ListN.{length, replicate, length-replicate}
-use Rattle.codec.specs.Laws.Decide.{passes, fails, split, never}
-use Rattle.codec.specs.Limit.{maxTasks}
+use Rattle.codec.specs.Laws.Decide.{never}
 use Rattle.entries.specs.Accesses.{accessesIn}
 use Rattle.pending.specs.Laws.All.{all-facts}
 use Rattle.pending.specs.Laws.Sound.{sound-facts}
@@ -21,7 +20,6 @@ use Rattle.scheduler.specs.Schedule.{scheduleOf, settledOf}
 use Rattle.playability.specs.Laws.Counted.{plays-length}
 use Rattle.playability.specs.Laws.Theorem.{free-plays, playable-answers}
 use Rattle.playability.specs.Order.{Plays}
-use Rattle.playability.specs.PlayableOf.{playableOf}
 use Rattle.fidelity.specs.Box.{Opening, Asked, recorded, recordingOf}
 use Rattle.fidelity.specs.Laws.BoxMatches.{parsedBy, owner-each, recording-parsed}
 use Rattle.fidelity.specs.Laws.LowestFirst.{box-playing, box-steps, box-finished}

@@ -1,5 +1,5 @@
 -- The lowest task that has accesses left: one pass of the search, and what it finds.
-use mathlib.Core.Path.{_≡_, refl, ap, _∙_}
+use mathlib.Core.Path.{_≡_, refl, ap}
 use mathlib.Core.Bool.{true, false}
 use mathlib.Core.List.{List}
 use Prim.Native.Nat.{ℕ, zero, suc, _+_, _-_, _≤_, _<_}
@@ -13,7 +13,7 @@ use Rattle.pending.specs.declared.Run.{Run}
 use Rattle.pending.specs.declared.TaskRun.{TaskRun}
 use Rattle.pending.specs.FirstUnmet.{unmetAt, Holds}
 use Rattle.pending.specs.Laws.Look.{OneTask, look-unmet}
-use Rattle.pending.specs.Unmet.{Unmet, unmetNext}
+use Rattle.pending.specs.Unmet.{unmetNext}
 use Rattle.replayer.specs.ReadyOf.{hasLeft}
 use Rattle.playability.specs.declared.hold.Hold.{Hold}
 use Rattle.playability.specs.declared.hold.Hold.the-variants.{Free, Held}

@@ -7,11 +7,10 @@ use native.Mathlib.Omega.{arith}
 use lib.ListN.{length}
 use Rattle.codec.specs.declared.Op.{Op}
 use Rattle.codec.specs.Field.{Bytes}
-use Rattle.entries.specs.Reading.{Reading, refused, read}
 use Rattle.reader.specs.declared.layout.Layout.{Layout}
 use Rattle.reader.specs.Laws.Located.{away, found, located}
 use Rattle.reader.specs.Layout.{refusedLayout, layoutOf}
-use Rattle.reader.specs.Parse.{Parsed, parse}
+use Rattle.reader.specs.Parse.{parse}
 use Rattle.pending.specs.declared.Run.{Run}
 use Rattle.pending.specs.Laws.Moved.{Shaped, moved-shaped}
 use Rattle.pending.specs.Run.{blankRun, movedOf}
@@ -26,7 +25,6 @@ use Rattle.scheduler.specs.Laws.Opened.{opened-few}
 use Rattle.scheduler.specs.Laws.Schedule.{schedule-short, schedule-next}
 use Rattle.scheduler.specs.Laws.Settled.{settled-next, settled-stops}
 use Rattle.scheduler.specs.Schedule.{scheduleOf, settledOf}
-use Rattle.playability.specs.declared.settle.Settled.{Settled}
 use Rattle.playability.specs.Settle.{settledIn, settleOf}
 
 -- a run after some steps: it will stop where the first run stops, after as many steps in all

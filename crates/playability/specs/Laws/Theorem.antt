@@ -1,20 +1,19 @@
 -- F-2, proved: 18 is answered exactly if there is no order of all accesses among all lists of tasks, and the order that is written is one.
 use mathlib.Core.Path.{_≡_, refl, sym, ap, _∙_}
-use mathlib.Core.Bool.{Bool, true, false}
+use mathlib.Core.Bool.{true, false}
 use mathlib.Core.List.{List, [], _∷_, _++_}
 use Prim.Native.Nat.{ℕ, _+_, _*_, _≤_, _<_}
 use native.Mathlib.Nat.{le-antisymm}
 use native.Mathlib.Decide.{decLt}
 use native.Mathlib.Omega.{arith}
-use borrow.Author.Tests.{ltb-true, ltb-false, lt-ltb, le-ltb, leb-true, leb-false}
-use lib.Dec.{leb, ltb}
+use borrow.Author.Tests.{ltb-true, ltb-false, leb-true, leb-false}
+use lib.Dec.{leb}
 use lib.ListN.{length, getD, List·getD-eq-default}
 use Rattle.codec.specs.declared.Position.{Position}
 use Rattle.codec.specs.Kind.{orderingKind, lengthOf}
 use Rattle.codec.specs.Laws.Decide.{passes, fails, split}
 use Rattle.codec.specs.Number.{noRoom, noOrder}
 use Rattle.codec.specs.Store.{store}
-use Rattle.entries.specs.declared.Checked.{Checked}
 use Rattle.entries.specs.Accesses.{accessesIn}
 use Rattle.entries.specs.Reading.{Reading, refused, read}
 use Rattle.entries.specs.Recording.{Entry, noEntry}
@@ -30,14 +29,13 @@ use Rattle.replayer.specs.OpenOf.{openedRun}
 use Rattle.replayer.specs.ReadyOf.{hasLeft}
 use Rattle.scheduler.specs.Schedule.{scheduleOf, settledOf}
 use Rattle.playability.specs.declared.Playability.{Playability}
-use Rattle.playability.specs.declared.hold.Hold.{Hold}
 use Rattle.playability.specs.declared.hold.Hold.the-variants.{Free}
 use Rattle.playability.specs.Hold.{offsetIn, holdOf}
 use Rattle.playability.specs.Order.{times, bodyOf, Allowed, Plays, LowestFirst, StaysHeld}
 use Rattle.playability.specs.PlayableOf.{PlayableOutcome, refusedPlayable}
 use Rattle.playability.specs.Statement.{HeldUp, answer, after, Answers}
 use Rattle.playability.specs.Laws.Counted.{plays-length}
-use Rattle.playability.specs.Laws.Held.{HoldIs, held, free, hold-is}
+use Rattle.playability.specs.Laws.Held.{held, free, hold-is}
 use Rattle.playability.specs.Laws.PlayableOf.{bytes-refused, task-held, output-short, order-fits}
 use Rattle.playability.specs.Laws.Order.{Stops, most-done, never-more}
 use Rattle.playability.specs.Laws.Walk.{Reached, startAt, order-reached, order-stops}

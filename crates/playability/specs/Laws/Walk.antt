@@ -1,20 +1,18 @@
 -- The order of "lowest ready task first" through a recording: it is allowed, the lowest ready task is next at each place, and no task is
 -- ready after it. A run's test for ready tasks and `Order.Ready` agree.
 use mathlib.Core.Path.{_≡_, refl, sym, ap, _∙_}
-use mathlib.Core.Bool.{true, false, _&&_}
+use mathlib.Core.Bool.{true}
 use mathlib.Core.List.{List, [], _∷_, _++_}
-use Prim.Native.Nat.{ℕ, suc, _+_, _≤_, _<_}
+use Prim.Native.Nat.{ℕ, _+_, _≤_, _<_}
 use native.Mathlib.Decide.{decLt, ℕ-discrete}
-use native.Mathlib.Numerals.{add-one}
 use native.Mathlib.Omega.{arith}
 use borrow.Author.Tests.{lt-ltb, ltb-true, leb-true, le-leb}
 use lib.Dec.{leb}
 use lib.ListN.{length, getD, take, length-append, List·getD-append, List·getD-eq-default}
-use lib.Seq.{take-suc, take-append-le, take-append-seam, getD-append-seam}
+use lib.Seq.{take-append-le, take-append-seam, getD-append-seam}
 use Rattle.codec.specs.declared.Op.{Op}
 use Rattle.codec.specs.declared.Position.{Position}
 use Rattle.codec.specs.Laws.Decide.{both-pass, never}
-use Rattle.entries.specs.Bytes.{entryLength}
 use Rattle.entries.specs.Reading.{read}
 use Rattle.entries.specs.Recording.{Entry, noEntry}
 use Rattle.reader.specs.Calls.{noSpan}
@@ -25,7 +23,6 @@ use Rattle.pending.specs.declared.Run.{Run}
 use Rattle.pending.specs.declared.TaskRun.{TaskRun}
 use Rattle.pending.specs.Laws.Moved.{moved-own, moved-other, moved-tasks}
 use Rattle.pending.specs.Laws.Next.{open-met}
-use Rattle.pending.specs.Laws.Sound.{sound-facts}
 use Rattle.pending.specs.Met.{allMet}
 use Rattle.pending.specs.Next.{nextOf}
 use Rattle.pending.specs.Run.{taskAt, doneOf, movedOf}
@@ -35,7 +32,7 @@ use Rattle.replayer.specs.Laws.ReadyOf.{ready, nowhere, ready-word}
 use Rattle.replayer.specs.Laws.Word.{zero-bit}
 use Rattle.replayer.specs.OpenOf.{openedRun}
 use Rattle.replayer.specs.ReadyOf.{hasLeft, isReady, readyOf}
-use Rattle.scheduler.specs.Schedule.{nextTask, scheduleOf, settledOf}
+use Rattle.scheduler.specs.Schedule.{scheduleOf, settledOf}
 use Rattle.scheduler.specs.Laws.Lowest.{IsNext}
 use Rattle.scheduler.specs.Laws.Settled.{settled-keeps, settled-ends}
 use Rattle.playability.specs.Order.{times, bodyOf, Ready, Allowed, LowestFirst, sizeOf}

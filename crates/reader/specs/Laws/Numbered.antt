@@ -13,7 +13,7 @@ use Rattle.codec.specs.Head.{headLength}
 use Rattle.codec.specs.Number.{short}
 use Rattle.codec.specs.Laws.Within.{Within, record-within}
 use Rattle.entries.specs.declared.Limits.{Limits}
-use Rattle.entries.specs.Reading.{Reading, stop}
+use Rattle.entries.specs.Reading.{stop}
 use Rattle.entries.specs.Laws.Reading.{Numbered, numbered-mapped, numbered-then}
 use Rattle.entries.specs.Body.{bodyEntries}
 use Rattle.reader.specs.Section.{taken, sectionBody, onSection, sectionAt, sectionsOf}

@@ -12,11 +12,17 @@ use borrow.Author.Needs.{needs}
 use Rattle.verdict.proofs.tell.Statement.{statement}
 use Rattle.verdict.proofs.tell.Tie as tie
 
+silent-requires : tie.Need-silent-requires
+silent-requires c κs = search needs
+
 returns : tie.Need-returns
-returns c = let a = c .before .before .before .before .args in let t = nothing (now (a .out)) 0 in let w = nothing (now (a .why)) 0 in rw (within-short most waitsMost (length (now (a .out))) (length (now (a .why))) _ (omega arith)) (t, (w, (counted t (omega arith), counted w (omega arith))))
+returns c = let a = c .before .before .before .before .before .args in let t = nothing (now (a .out)) 0 in let w = nothing (now (a .why)) 0 in rw (c .silent .ensures, within-short most waitsMost (length (now (a .out))) (length (now (a .why))) _ (omega arith)) (t, (w, (counted t (omega arith), counted w (omega arith))))
+
+silent-requires-2 : tie.Need-silent-requires-2
+silent-requires-2 c κs = search needs
 
 returns-2 : tie.Need-returns-2
-returns-2 c = let a = c .before .before .before .before .before .args in let t = nothing (now (a .out)) 0 in let w = nothing (now (a .why)) 0 in rw (within-short-why most waitsMost (length (now (a .out))) (length (now (a .why))) _ (omega arith) (omega arith)) (t, (w, (counted t (omega arith), counted w (omega arith))))
+returns-2 c = let a = c .before .before .before .before .before .before .args in let t = nothing (now (a .out)) 0 in let w = nothing (now (a .why)) 0 in rw (c .silent2 .ensures, within-short-why most waitsMost (length (now (a .out))) (length (now (a .why))) _ (omega arith) (omega arith)) (t, (w, (counted t (omega arith), counted w (omega arith))))
 
 slice-aggregate-put-bytes : tie.Need-slice-aggregate-put-bytes
 slice-aggregate-put-bytes c = search needs
@@ -46,7 +52,9 @@ pub tell-spec : {M : Type 1} → statement M
 tell-spec =
     tie.close
     (tie.spec
+    silent-requires
     returns
+    silent-requires-2
     returns-2
     slice-aggregate-put-bytes
     put-bytes-requires
