@@ -77,6 +77,10 @@ unsound = 17
 abbrev pub noOrder : ℕ
 noOrder = 18
 
+-- the memory differs from the value in the read's record (document 02, F-3)
+abbrev pub differs : ℕ
+differs = 19
+
 -- the ends of the logs decrease, go past the logs, or are not T in number (document 02, F-8)
 abbrev pub ends : ℕ
 ends = 21

@@ -36,5 +36,7 @@ pub const HELD: u32 = 16;
 pub const UNSOUND: u32 = 17;
 // 18: no order of all accesses keeps each task's own order and every ordering (document 02, F-2).
 pub const NO_ORDER: u32 = 18;
+// 19: the memory differs from the value in the read's record (document 02, F-3).
+pub const DIFFERS: u32 = 19;
 // 21: the ends of the logs decrease, go past the logs, or are not T in number (document 02, F-8).
 pub const ENDS: u32 = 21;

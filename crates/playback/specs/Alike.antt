@@ -1,6 +1,7 @@
 -- Two recordings that are alike (document 01, "Replay": "both finish under lowest ready task first, with equal T, N, step count and final
 -- memory"). Order of refusals: the first recording's bytes, the second's, then 3; a refusal leaves both memories as they were. Otherwise
--- each memory holds what its run ended or got stuck with.
+-- both runs are played, and each memory holds what its run ended with; a run that a 19 stopped has not finished, so it is alike to none
+-- (document 02, F-3).
 use mathlib.Core.Bool.{Bool, false, cond, _&&_}
 use mathlib.Core.List.{List}
 use Prim.Native.Nat.{ℕ}
@@ -39,10 +40,10 @@ refusedCompared number offset = record { number = number; offset = offset; alike
 abbrev pub refusing : ℕ → ℕ → List ℕ → List ℕ → Comparison
 refusing number offset m n = record { answer = refusedCompared number offset; first = m; second = n }
 
--- the comparison of two plays
-abbrev pub comparing : Play → Play → Comparison
-comparing x y = record {
-  answer = record { number = 0; offset = 0; alike = alikeOf (shownPlay x) (shownPlay y) (sameEntries (x .memory) (y .memory)) };
+-- the comparison of two plays, each over its bytes
+abbrev pub comparing : List ℕ → List ℕ → Play → Play → Comparison
+comparing b c x y = record {
+  answer = record { number = 0; offset = 0; alike = alikeOf (shownPlay b x) (shownPlay c y) (sameEntries (x .memory) (y .memory)) };
   first = x .memory;
   second = y .memory;
 }
@@ -51,7 +52,7 @@ unfoldable pub compared : List ℕ → List ℕ → List ℕ → List ℕ → Re
 compared b c m n (refused d) y = refusing (d .number) (d .offset) m n
 compared b c m n (read p) (refused d) = refusing (d .number) (d .offset) m n
 compared b c m n (read p) (read q) =
-    cond (eqb (length m) (length (p .recording .owners)) && eqb (length n) (length (q .recording .owners))) (comparing (playOf b m) (playOf c n))
+    cond (eqb (length m) (length (p .recording .owners)) && eqb (length n) (length (q .recording .owners))) (comparing b c (playOf b m) (playOf c n))
     (refusing wrongLength 0 m n)
 
 unfoldable pub sameOutcomeOf : List ℕ → List ℕ → List ℕ → List ℕ → Comparison

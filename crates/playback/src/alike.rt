@@ -1,4 +1,4 @@
-// Whether two recordings are alike: both are played to their end, always the lowest ready task, and the results are compared.
+// Whether two recordings are alike: both are played to where they end, always the lowest ready task, and the results are compared.
 ghost use mathlib.Core.Path.{_≡_};
 ghost use lib.ListN.{length};
 ghost use Rattle.reader.specs.Layout.{layoutOf};
@@ -75,7 +75,7 @@ fn compare(
 ) -> bool
     requires { ⌜ (l ≡ layoutOf (parse (now first))) × (l .number ≡ 0) × (length (now «first_memory») ≡ l .objects) ⌝ }
     requires { ⌜ (k ≡ layoutOf (parse (now second))) × (k .number ≡ 0) × (length (now «second_memory») ≡ k .objects) ⌝ }
-    ensures { λ r. ⌜ r ≡ comparing (playOf (now (first .entry)) (now («first_memory» .entry))) (playOf (now (second .entry)) (now («second_memory» .entry))) .answer .alike ⌝ }
+    ensures { λ r. ⌜ r ≡ comparing (now (first .entry)) (now (second .entry)) (playOf (now (first .entry)) (now («first_memory» .entry))) (playOf (now (second .entry)) (now («second_memory» .entry))) .answer .alike ⌝ }
     ensures { λ r. ⌜ now («first_memory» .exit) ≡ playOf (now (first .entry)) (now («first_memory» .entry)) .memory ⌝ }
     ensures { λ r. ⌜ now («second_memory» .exit) ≡ playOf (now (second .entry)) (now («second_memory» .entry)) .memory ⌝ }
 {

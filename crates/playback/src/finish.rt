@@ -1,16 +1,21 @@
-// Plays a run, always the lowest ready task, until no task is ready; and whether a run has finished.
+// Plays a run, always the lowest ready task, until a step is not taken; and whether a run has finished.
 ghost use mathlib.Core.Path.{_≡_};
 ghost use Prim.Native.Nat.{_<_};
+ghost use Rattle.entries.specs.Reading.{stop};
 ghost use Rattle.scheduler.specs.Laws.Columns.{allDoneOf};
 ghost use Rattle.scheduler.specs.Finish.{leftOver, finishOf};
 ghost use Rattle.playback.specs.Shown.{shownPlay, finishedCall};
 ghost use Rattle.scheduler.specs.Laws.Finish.{Playing};
 use codec::limit::TASKS;
 use codec::limit::least;
+use codec::number::DIFFERS;
 use codec::number::UNSOUND;
+use entries::Checked;
 use pending::Run;
 use pending::sound::sound;
+use replayer::stepping::agrees;
 use replayer::stepping::perform;
+use replayer::stepping::record_at;
 use scheduler::columns::columns_of;
 use scheduler::lowest::NextStep;
 use scheduler::lowest::lowest;
@@ -21,20 +26,41 @@ pub struct Completion {
     pub finished: bool,
 }
 
-// The result of a play: T, N, the number of steps, and whether it finished; if not, it is stuck.
+// The result of a play: T, N, the number of steps, and whether it finished. `stopped` is 19 and the offset of a read's record if the
+// memory differs from it, else 0 and 0; a play that has neither finished nor been stopped is stuck.
 pub struct Played {
     pub tasks: usize,
     pub objects: usize,
     pub steps: usize,
     pub finished: bool,
+    pub stopped: Checked,
 }
 
-// As long as a task is ready, the lowest one is stepped and its access is done on the memory. Each step leaves one access fewer, so the
-// loop ends and the number of steps fits its type.
+fn played(
+    tasks: usize,
+    objects: usize,
+    steps: usize,
+    finished: bool,
+    number: u32,
+    offset: usize,
+) -> Played
+    ensures { λ r. ⌜ r ≡ record { tasks = tasks; objects = objects; steps = steps; finished = finished; stopped = stop number offset } ⌝ }
+{
+    Played {
+        tasks,
+        objects,
+        steps,
+        finished,
+        stopped: Checked { number, offset },
+    }
+}
+
+// As long as a task is ready, the lowest one is stepped and its access is done on the memory, if the memory agrees with it. Each step
+// leaves one access fewer, so the loop ends and the number of steps fits its type.
 pub(crate) fn finish(run: Run, bytes: &[u8], memory: &mut [u32]) -> Played
     requires { ⌜ Playing (now bytes) (record { run = run; memory = now memory; steps = 0 }) ⌝ }
     requires { ⌜ leftOver run < 18446744073709551616 ⌝ }
-    ensures { λ r. ⌜ r ≡ shownPlay (finishOf (now (bytes .entry)) (record { run = run; memory = now (memory .entry); steps = 0 })) ⌝ }
+    ensures { λ r. ⌜ r ≡ shownPlay (now (bytes .entry)) (finishOf (now (bytes .entry)) (record { run = run; memory = now (memory .entry); steps = 0 })) ⌝ }
     ensures { λ r. ⌜ now (memory .exit) ≡ finishOf (now (bytes .entry)) (record { run = run; memory = now (memory .entry); steps = 0 }) .memory ⌝ }
 {
     let c = columns_of(run);
@@ -57,14 +83,14 @@ pub(crate) fn finish(run: Run, bytes: &[u8], memory: &mut [u32]) -> Played
             &mut scans,
             &mut ats,
         );
-        let NextStep::Ready { task: _, op } = n else {
-            return Played {
-                tasks: run.tasks,
-                objects: run.objects,
-                steps,
-                finished: all_done(run.tasks, &dones, &counts),
-            };
+        let NextStep::Ready { task, op } = n else {
+            let done = all_done(run.tasks, &dones, &counts);
+            return played(run.tasks, run.objects, steps, done, 0, 0);
         };
+        if !agrees(op, memory) {
+            let at = record_at(op, places[task]);
+            return played(run.tasks, run.objects, steps, false, DIFFERS, at);
+        }
         perform(op, memory);
         steps += 1;
     }

@@ -1,4 +1,4 @@
-// A recording played to its end in one call: opened, then the lowest ready task is stepped until none is ready.
+// A recording played to its end in one call: opened, then the lowest ready task is stepped until a step is not taken.
 ghost use mathlib.Core.Path.{_≡_};
 ghost use lib.ListN.{length};
 ghost use Rattle.reader.specs.Layout.{layoutOf};
@@ -8,16 +8,18 @@ ghost use Rattle.playback.specs.ToEnd.{playOf, refusedEnd, toEndOf};
 use crate::finish::Played;
 use crate::finish::finish;
 use codec::number::ENTRIES;
+use entries::Checked;
 use reader::layout::Layout;
 use reader::layout::locate;
 use replayer::start::begin;
 
-// A run that has not finished is stuck.
+// As in `Played`: a run that has neither finished nor been stopped is stuck.
 pub struct Replayed {
     pub number: u32,
     pub offset: usize,
     pub steps: usize,
     pub finished: bool,
+    pub stopped: Checked,
 }
 
 fn refused(number: u32, offset: usize) -> Replayed
@@ -28,13 +30,17 @@ fn refused(number: u32, offset: usize) -> Replayed
         offset,
         steps: 0,
         finished: false,
+        stopped: Checked {
+            number: 0,
+            offset: 0,
+        },
     }
 }
 
-// Plays a checked recording from its opening to where it ends or gets stuck.
+// Plays a checked recording from its opening to where it ends.
 pub(crate) fn play(bytes: &[u8], l: Layout, memory: &mut [u32]) -> Played
     requires { ⌜ (l ≡ layoutOf (parse (now bytes))) × (l .number ≡ 0) × (length (now memory) ≡ l .objects) ⌝ }
-    ensures { λ r. ⌜ r ≡ shownPlay (playOf (now (bytes .entry)) (now (memory .entry))) ⌝ }
+    ensures { λ r. ⌜ r ≡ shownPlay (now (bytes .entry)) (playOf (now (bytes .entry)) (now (memory .entry))) ⌝ }
     ensures { λ r. ⌜ now (memory .exit) ≡ playOf (now (bytes .entry)) (now (memory .entry)) .memory ⌝ }
 {
     let run = begin(bytes, l, memory);
@@ -54,10 +60,12 @@ pub fn replay_to_end(bytes: &[u8], memory: &mut [u32]) -> Replayed
         return refused(ENTRIES, 0);
     }
     let p = play(bytes, l, memory);
+    let stopped = p.stopped;
     Replayed {
         number: 0,
         offset: 0,
         steps: p.steps,
         finished: p.finished,
+        stopped,
     }
 }

@@ -11,6 +11,7 @@ pub mod LocateCode
 pub mod Located
 pub mod Numbered
 pub mod OneByOne
+pub mod Range
 pub mod Roundtrip
 pub mod Section
 pub mod SectionCode

@@ -1,13 +1,16 @@
 // What a step does: the checks before the bytes, the access on the memory, the run's change, and the answers.
 ghost use mathlib.Core.Path.{_≡_};
-ghost use Prim.Native.Nat.{_+_, _<_};
+ghost use Prim.Native.Nat.{_+_, _<_, _≤_};
+ghost use Rattle.codec.specs.Encode.{opLength};
 ghost use Rattle.codec.specs.Limit.{maxTasks};
 ghost use Rattle.pending.specs.Run.{doneOf, movedOf};
-ghost use Rattle.replayer.specs.Memory.{valueOf, performed};
-ghost use Rattle.replayer.specs.StepOf.{refusedStep, earlyNumber};
+ghost use Rattle.replayer.specs.Memory.{valueOf, performed, agrees as agreesWith};
+ghost use Rattle.replayer.specs.StepOf.{refusedStep, earlyNumber, recordAt};
 ghost use Rattle.replayer.specs.Laws.StepOf.{lateRefusal};
 use crate::Stepped;
 use codec::Op;
+use codec::kind::length_of;
+use codec::kind::valued_read;
 use codec::kind::writes;
 use codec::number::ENTRIES;
 use codec::number::FINISHED;
@@ -69,6 +72,29 @@ pub(crate) fn late_refusal(n: Next) -> Checked
         },
         Next::Refused(c) => c,
     }
+}
+
+// Whether the memory holds the value of a read's record; true if the record holds none. Past the memory's end there is 0.
+pub fn agrees(op: Op, memory: &[u32]) -> bool
+    ensures { λ r. ⌜ r ≡ agreesWith op (now (memory .entry)) ⌝ }
+{
+    if !valued_read(op.kind) {
+        return true;
+    }
+    let o = op.object as usize;
+    let value = op.value;
+    if o < memory.len() {
+        return memory[o] == value;
+    }
+    0 == value
+}
+
+// The offset of an access's record, which ends at `next`.
+pub fn record_at(op: Op, next: usize) -> usize
+    requires { ⌜ opLength op ≤ next ⌝ }
+    ensures { λ r. ⌜ r ≡ recordAt op next ⌝ }
+{
+    next - length_of(op.kind) as usize
 }
 
 // A read returns the memory's value, a write stores and returns its own. Past the memory's end nothing is stored, and 0 is returned.

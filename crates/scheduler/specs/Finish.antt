@@ -1,5 +1,6 @@
--- Lowest ready task first, played to the end (document 01, "Replay"): as long as a task is ready, the lowest one is stepped. A run has
--- finished if no task has accesses left; if it ends otherwise, it is stuck.
+-- Lowest ready task first, played to the end (document 01, "Replay"): the lowest ready task is stepped until a step is not taken. Then no
+-- task is ready, or the memory differs from the value in the read's record (document 02, F-3; `Laws/Finish.finish-ends`). A run has
+-- finished if no task has accesses left; if it has not and no task is ready, it is stuck.
 use mathlib.Core.Bool.{Bool, cond, not}
 use mathlib.Core.List.{List}
 use Prim.Native.Nat.{ℕ, zero, suc, _+_, _-_, min}
@@ -26,17 +27,29 @@ wordAt b x = readyOf (x .run) b .word
 abbrev pub taskNext : List ℕ → Play → ℕ
 taskNext b x = lowestReady (wordAt b x)
 
-unfoldable pub onward : List ℕ → Play → Play
-onward b x = record {
-  run = stepOf (x .run) b (x .memory) (taskNext b x) .answer .run;
-  memory = stepOf (x .run) b (x .memory) (taskNext b x) .memory;
+-- a step of a task is taken if its number is 0
+abbrev pub takesStep : List ℕ → Play → ℕ → Bool
+takesStep b x t = eqb (stepOf (x .run) b (x .memory) t .answer .number) 0
+
+-- the play after a step that is taken
+abbrev pub steppedBy : List ℕ → Play → ℕ → Play
+steppedBy b x t = record {
+  run = stepOf (x .run) b (x .memory) t .answer .run;
+  memory = stepOf (x .run) b (x .memory) t .memory;
   steps = x .steps + 1;
 }
 
--- at most n steps
+-- the step of the lowest ready task; if none is ready, this is no task, and the step is not taken
+abbrev pub goesOn : List ℕ → Play → Bool
+goesOn b x = takesStep b x (taskNext b x)
+
+unfoldable pub onward : List ℕ → Play → Play
+onward b x = steppedBy b x (taskNext b x)
+
+-- at most n steps, up to the first that is not taken
 unfoldable pub playedOf : ℕ → List ℕ → Play → Play
 playedOf zero b x = x
-playedOf (suc fuel) b x = cond (eqb (wordAt b x) 0) x (playedOf fuel b (onward b x))
+playedOf (suc fuel) b x = cond (goesOn b x) (playedOf fuel b (onward b x)) x
 
 -- the accesses left to the first n tasks, and to all; each step takes one, so this many steps are enough
 unfoldable pub leftIn : List TaskRun → ℕ → ℕ

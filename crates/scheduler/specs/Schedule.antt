@@ -1,17 +1,16 @@
--- The order of "lowest ready task first" (document 01, "Replay"): the tasks it steps, one after another, until no task is ready. An
--- unsound run has no ready task.
+-- The order of "lowest ready task first" (document 01, "Replay"): the tasks it steps, one after another, until no task is ready. Which
+-- tasks are ready does not depend on the memory, and neither does the order. An unsound run has no ready task.
 use mathlib.Core.Bool.{cond}
 use mathlib.Core.List.{List, [], _∷_}
-use Prim.Native.Nat.{ℕ, zero, suc, _+_}
+use Prim.Native.Nat.{ℕ, zero, suc}
 use lib.Dec.{eqb}
 use Rattle.pending.specs.declared.Run.{Run}
 use Rattle.pending.specs.declared.next.Next.{Next}
 use Rattle.pending.specs.declared.next.Next.the-variants.{Open, Held, Refused}
-use Rattle.scheduler.specs.Finish.{Play, leftOver}
+use Rattle.scheduler.specs.Finish.{Play, leftOver, takesStep, steppedBy}
 use Rattle.pending.specs.Next.{nextOf}
 use Rattle.replayer.specs.ReadyOf.{readyOf}
 use Rattle.pending.specs.Run.{movedOf}
-use Rattle.replayer.specs.StepOf.{stepOf}
 use Rattle.replayer.specs.Word.{lowestReady}
 
 abbrev pub nextTask : List ℕ → Run → ℕ
@@ -42,14 +41,7 @@ ranBy b r (t ∷ ts) = ranBy b (behindOf r t (nextOf r b t)) ts
 abbrev pub settledOf : List ℕ → Run → Run
 settledOf b r = ranBy b r (scheduleOf b r)
 
--- a play after a step of a task, and after a list of steps
-abbrev pub steppedBy : List ℕ → Play → ℕ → Play
-steppedBy b x t = record {
-  run = stepOf (x .run) b (x .memory) t .answer .run;
-  memory = stepOf (x .run) b (x .memory) t .memory;
-  steps = x .steps + 1;
-}
-
+-- a play after a list of steps, up to the first that is not taken
 unfoldable pub playedBy : List ℕ → Play → List ℕ → Play
 playedBy b x [] = x
-playedBy b x (t ∷ ts) = playedBy b (steppedBy b x t) ts
+playedBy b x (t ∷ ts) = cond (takesStep b x t) (playedBy b (steppedBy b x t) ts) x

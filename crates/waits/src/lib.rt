@@ -1,7 +1,9 @@
-// Why a play is stuck: for each task that has accesses left, the ordering it waits for.
+// Why a play is stuck: for each task that has accesses left, the ordering it waits for. And why it was stopped: what the read's record
+// says and what the memory holds.
 ghost use mathlib.Core.List.{_++_};
+ghost use mathlib.Core.Path.{_≡_};
 ghost use Prim.Native.Nat.{_+_, _≤_};
-ghost use lib.ListN.{length};
+ghost use lib.ListN.{length, getD};
 ghost use Rattle.codec.specs.Limit.{maxTasks};
 ghost use Rattle.pending.specs.declared.Run.{Run};
 ghost use Rattle.pending.specs.Laws.Look.{OneTask};
@@ -9,8 +11,13 @@ ghost use Rattle.pending.specs.Laws.Sound.{Sound};
 ghost use Rattle.pending.specs.Unmet.{first};
 ghost use Rattle.text.specs.Appended.{Appended};
 ghost use Rattle.text.specs.Decimal.{fieldOf};
+ghost use Rattle.waits.specs.Differ.{differLine, differOf};
 ghost use Rattle.waits.specs.Waits.{waitLine, waitOf, waitsOf, lineMost, waitsMost};
+use codec::Record;
 use codec::limit::TASKS;
+use codec::limit::least;
+use codec::number::IN_BODY;
+use codec::read::record;
 use entries::Limits;
 use entries::entry::number_at;
 use entries::entry::source_at;
@@ -97,4 +104,39 @@ pub fn put_waits(bytes: &[u8], run: Run, out: &mut [u8]) -> usize
         at = put_wait(out, at, x, bytes, limits, &dones);
     }
     at
+}
+
+// The value of an object, 0 past the memory's end.
+fn held(memory: &[u32], object: usize) -> u32
+    ensures { λ r. ⌜ r ≡ getD (now (memory .entry)) object 0 ⌝ }
+{
+    if object < memory.len() {
+        return memory[object];
+    }
+    0
+}
+
+// The record's offset, its value, its object, and what the memory holds there.
+fn put_held(out: &mut [u8], at: usize, value: u32, object: u16, held: u32) -> usize
+    requires { ⌜ lineMost ≤ length (now out) ⌝ }
+    ensures { λ r. ⌜ Appended (differLine at value object held) (now (out .entry)) 0 (now (out .exit)) r ⌝ }
+{
+    let a = put_part(out, 0, b"the read at byte ", at as u64, b' ');
+    let b = put_part(out, a, b"got ", value as u64, b',');
+    let c = put_part(out, b, b" but object ", object as u64, b' ');
+    put_part(out, c, b"holds ", held as u64, b'\n')
+}
+
+// What the record at an offset says that its read got, and what the memory holds, from the start of the output. Returns the length.
+pub fn put_differ(bytes: &[u8], memory: &[u32], at: usize, out: &mut [u8]) -> usize
+    requires { ⌜ lineMost ≤ length (now out) ⌝ }
+    ensures { λ r. ⌜ Appended (differOf (now (bytes .entry)) (now (memory .entry)) at) (now (out .entry)) 0 (now (out .exit)) r ⌝ }
+{
+    let from = least(at, bytes.len());
+    let r = record(&bytes[from..], IN_BODY);
+    let Record::Access(op) = r else {
+        return 0;
+    };
+    let object = op.object;
+    put_held(out, at, op.value, object, held(memory, object as usize))
 }

@@ -23,11 +23,6 @@ use Rattle.fidelity.specs.Filed.{filedOf}
 use Rattle.reader.specs.Laws.Strict.{below-under}
 use Rattle.fidelity.specs.Laws.Follows.{Follows, follows-all}
 
-under-at : (n : ℕ) (l : List ℕ) (i : ℕ) → AllUnder n l → i < length l → getD l i 0 < n
-under-at n [] i u h = absurd (omega arith)
-under-at n (x ∷ l) zero u h = u .0
-under-at n (x ∷ l) (suc i) u h = under-at n l i (u .1) (omega arith)
-
 -- the starting values by object
 abbrev pub startOf : Opening → ℕ → ℕ
 startOf o c = getD (o .starts) c 0
@@ -59,7 +54,7 @@ module _ (o : Opening) (accepted : openedBy o .answer .number ≡ 0) where
     tasks-fit = opening-facts .few-tasks;
     some-object = opening-facts .some-objects;
     objects-fit = opening-facts .few-objects;
-    owners-low = λ c h. under-at (o .tasks) (o .owners) c owners-under (omega (arith, opening-facts .owner-each));
+    owners-low = λ c h. under-at (o .tasks) (o .owners) c (opening-facts .some-tasks) owners-under;
   }
 
   follows-opened : Follows (startOf o) (o .tasks) (o .objects) (record { state = openedState (o .tasks) (o .objects) (o .owners); memory = o .starts; logs = λ t. [] }) []
@@ -69,6 +64,7 @@ module _ (o : Opening) (accepted : openedBy o .answer .number ≡ 0) where
     tasks-are = refl;
     objects-are = refl;
     memory-each = opening-facts .start-each;
+    values = λ c. under-at 4294967296 (o .starts) c (omega arith) (o .fits);
     logs = λ t. refl;
     small = λ t. omega arith;
     entries = λ t. tt;

@@ -5,9 +5,11 @@ use mathlib.Core.List.{List, [], _∷_, _++_, append-nil, append-assoc}
 use mathlib.Core.Path.{_≡_, subst, _∙_}
 use Prim.Native.Nat.{ℕ, _*_, _≤_, _<_}
 use native.Mathlib.Omega.{arith}
+use native.Mathlib.Decide.{ℕ-discrete}
 use borrow.Author.Tests.{eqb-true, eqb-false}
 use lib.Dec.{eqb}
 use lib.ListN.{length, getD, length-append}
+use lib.Seq.{getD-set-same, getD-set-other}
 use Rattle.codec.specs.Laws.Decide.{passes, fails, split}
 use Rattle.entries.specs.declared.Limits.{Limits}
 use Rattle.entries.specs.Recording.{Entry as FileEntry}
@@ -19,13 +21,13 @@ use Rattle.history.specs.Laws.History.{count-own, count-other}
 use Rattle.tracker.specs.Laws.Accesses.{trackedEntry}
 use Rattle.tracker.specs.Laws.After.{next-tasks, next-objects}
 use Rattle.tracker.specs.Laws.Tracks.{Tracks, tracks-more}
-use Rattle.recorder.specs.AccessOf.{isWrite}
+use Rattle.recorder.specs.AccessOf.{isWrite, valueAfter, memoryAfter}
 use Rattle.recorder.specs.Laws.Accepted.{Takes, written-length, entry-in, entry-bound}
 use Rattle.recorder.specs.WholeRun.{AccessCall, Call, Box, called, leftBy, calledAll}
 use Rattle.fidelity.specs.Box.{Fits, Asked, callsOf, accepts, recordedEntry, addedBy, recordedFrom}
 use Rattle.fidelity.specs.Filed.{filedOf}
 use Rattle.fidelity.specs.Laws.Matches.{Recordable}
-use Rattle.fidelity.specs.Laws.OneCall.{fileEntry, historyEntry, boxAfter, takenTurn, turnedAway, turn, entry-filed, memory-after, memory-length}
+use Rattle.fidelity.specs.Laws.OneCall.{givenBy, fileEntry, historyEntry, boxAfter, takenTurn, turnedAway, turn, entry-filed, memory-after, memory-length}
 
 abbrev pub limits : ℕ → ℕ → ℕ → Limits
 limits tasks objects t = record { tasks = tasks; objects = objects; own = t }
@@ -46,6 +48,7 @@ pub record Follows (start : ℕ → ℕ) (tasks objects : ℕ) (b : Box) (h : Hi
   pub tasks-are : b .state .tasks ≡ tasks
   pub objects-are : b .state .objects ≡ objects
   pub memory-each : length (b .memory) ≡ objects
+  pub values : (c : ℕ) → getD (b .memory) c 0 < 4294967296
   pub logs : (t : ℕ) → b .logs t ≡ bodyBytes (filedOf t h)
   pub small : (t : ℕ) → length (b .logs t) ≤ 138 * count t h
   pub entries : (t : ℕ) → EntriesIn (limits tasks objects t) (filedOf t h)
@@ -71,10 +74,27 @@ module _ {start : ℕ → ℕ} {tasks objects : ℕ} {b : Box} {h : History} (f 
         arith,
         f .small t,
         count-own t (historyEntry b c) h (eqb-true _ _ p),
-        entry-bound (b .state) (c .task) (c .object) (isWrite (c .sort)) (c .value) (k .facts .sound .tasks-fit),
+        entry-bound (b .state) (c .task) (c .object) (isWrite (c .sort)) (k .facts .sound .tasks-fit),
       ))
       | fails p ↦ rw p (omega (arith, f .small t, count-other t (historyEntry b c) h (eqb-false _ _ p)))
     ]
+
+    given-fits : c .value < 4294967296 → givenBy b c < 4294967296
+    given-fits v = go (isWrite (c .sort))
+      where
+        go : (write : Bool) → valueAfter write (c .object) (c .value) (b .memory) < 4294967296
+        go true = v
+        go false = f .values (c .object)
+
+    values-next : c .value < 4294967296 → (o : ℕ) → getD (boxAfter b c .memory) o 0 < 4294967296
+    values-next v o = go (isWrite (c .sort))
+      where
+        go : (write : Bool) → getD (memoryAfter write (c .object) (c .value) (b .memory)) o 0 < 4294967296
+        go false = f .values o
+        go true = elim (ℕ-discrete o (c .object)) [
+          | yes e ↦ rw (e, getD-set-same (b .memory) (c .object) (c .value) 0 (omega (arith, k .facts .memory-each, k .facts .accepts .object-low))) v
+          | no e ↦ rw (getD-set-other (b .memory) (c .object) o (c .value) 0 e) (f .values o)
+        ]
 
     entries-next : c .value < 4294967296 → (t : ℕ) → EntriesIn (limits tasks objects t) (filedOf t (historyEntry b c ∷ h))
     unfolding filedOf
@@ -83,7 +103,7 @@ module _ {start : ℕ → ℕ} {tasks objects : ℕ} {b : Box} {h : History} (f 
           let m : limits (b .state .tasks) (b .state .objects) (c .task) ≡ limits tasks objects t = rw (f .tasks-are, f .objects-are, eqb-true (c .task) t p) in
           rw (p, entry-filed b c) (entries-more (limits tasks objects t) (filedOf t h) (fileEntry b c) (f .entries t)
           (subst (λ (x : Limits). EntryIn x (fileEntry b c)) m
-          (entry-in (b .state) (c .task) (c .object) (isWrite (c .sort)) (c .value) (k .facts .sound) (k .facts .accepts .object-low) v)))
+          (entry-in (b .state) (c .task) (c .object) (isWrite (c .sort)) (givenBy b c) (k .facts .sound) (k .facts .accepts .object-low) (given-fits v))))
       | fails p ↦ rw p (f .entries t)
     ]
 
@@ -104,6 +124,7 @@ module _ {start : ℕ → ℕ} {tasks objects : ℕ} {b : Box} {h : History} (f 
       tasks-are = next-tasks (b .state) (c .task) (c .object) (isWrite (c .sort)) ∙ f .tasks-are;
       objects-are = next-objects (b .state) (c .task) (c .object) (isWrite (c .sort)) ∙ f .objects-are;
       memory-each = memory-length (b .memory) (c .object) (isWrite (c .sort)) (c .value) ∙ f .memory-each;
+      values = values-next v;
       logs = logs-next;
       small = small-next;
       entries = entries-next v;

@@ -7,26 +7,27 @@ use borrow.Author.Tests.{eqb-true, eqb-false}
 use lib.Dec.{eqb}
 use lib.ListN.{length, getD, length-set}
 use lib.Seq.{getD-set-same, getD-set-other}
-use Rattle.codec.specs.declared.Op.{Op}
 use Rattle.codec.specs.Laws.Decide.{passes, fails, split}
-use Rattle.codec.specs.Laws.Encode.{op-read}
 use Rattle.codec.specs.Laws.Store.{store-front}
 use Rattle.entries.specs.Recording.{Entry as FileEntry}
-use Rattle.entries.specs.Bytes.{entryBytes, entryLength}
+use Rattle.entries.specs.Bytes.{entryBytes}
 use Rattle.history.specs.Entry.{Entry}
 use Rattle.tracker.specs.declared.State.{State}
 use Rattle.tracker.specs.Laws.Accesses.{trackedEntry, memoryAfter as trackedMemory}
 use Rattle.tracker.specs.Next.{stateAfter}
 use Rattle.tracker.specs.Orderings.{writtenOf}
-use Rattle.recorder.specs.AccessOf.{isWrite, accepted, refused, valueAfter, memoryAfter, writtenEntry}
+use Rattle.recorder.specs.AccessOf.{isWrite, accepted, refused, valueAfter, memoryAfter, writtenEntry, writtenSize}
 use Rattle.recorder.specs.Laws.Accepted.{Takes, takes-accepted, number-refused, number-takes, written-length}
 use Rattle.recorder.specs.WholeRun.{AccessCall, Box, outcome, called}
 use Rattle.fidelity.specs.Box.{accepts, actOf, recordedEntry}
 use Rattle.fidelity.specs.Filed.{filed}
 
--- what an accepted call writes, and its entry
+-- the value that an accepted call answers, what it writes, and its entry
+abbrev pub givenBy : Box → AccessCall → ℕ
+givenBy b c = valueAfter (isWrite (c .sort)) (c .object) (c .value) (b .memory)
+
 abbrev pub fileEntry : Box → AccessCall → FileEntry
-fileEntry b c = writtenEntry (b .state) (c .task) (c .object) (isWrite (c .sort)) (c .value)
+fileEntry b c = writtenEntry (b .state) (c .task) (c .object) (isWrite (c .sort)) (givenBy b c)
 
 abbrev pub historyEntry : Box → AccessCall → Entry
 historyEntry b c = trackedEntry (b .state) (c .task) (c .object) (isWrite (c .sort)) (c .value) (getD (b .memory) (c .object) 0)
@@ -41,7 +42,7 @@ boxAfter b c = record {
 
 pub data Turn (b : Box) (c : AccessCall) : Type 0 where
   takenTurn : Takes (b .state) (c .task) (c .object) (c .sort) (c .value) (b .memory) (c .out) → accepts b c ≡ true
-      → outcome b c .answer .value ≡ valueAfter (isWrite (c .sort)) (c .object) (c .value) (b .memory)
+      → outcome b c .answer .value ≡ givenBy b c
       → recordedEntry b c ≡ historyEntry b c → called b c ≡ boxAfter b c → Turn b c
   turnedAway : accepts b c ≡ false → outcome b c .answer .value ≡ 0 → called b c ≡ b → Turn b c
 
@@ -57,7 +58,7 @@ module _ (b : Box) (c : AccessCall) where
   unfolding called accepted
   took k a e = takenTurn k a (rw e)
       (rw e (act-same (b .state) (c .task) (c .object) (isWrite (c .sort)) (c .value) (b .memory)))
-      (simp (e, store-front (c .out) (entryBytes (fileEntry b c)) (entryLength (fileEntry b c)) (written-length (b .state) (c .task) (c .object) (isWrite (c .sort)) (c .value)) (k .room)))
+      (simp (e, store-front (c .out) (entryBytes (fileEntry b c)) (writtenSize (b .state) (c .task) (c .object) (isWrite (c .sort))) (written-length (b .state) (c .task) (c .object) (isWrite (c .sort)) (givenBy b c)) (k .room)))
 
   same-logs : (t : ℕ) → cond (eqb (c .task) t) (b .logs t ++ []) (b .logs t) ≡ b .logs t
   same-logs t = elim (split (eqb (c .task) t)) [
@@ -82,9 +83,9 @@ module _ (b : Box) (c : AccessCall) where
   entry-filed = go (isWrite (c .sort))
     where
       go : (write : Bool) → filed (trackedEntry (b .state) (c .task) (c .object) write (c .value) (getD (b .memory) (c .object) 0))
-          ≡ writtenEntry (b .state) (c .task) (c .object) write (c .value)
+          ≡ writtenEntry (b .state) (c .task) (c .object) write (valueAfter write (c .object) (c .value) (b .memory))
       go true = refl
-      go false = ap (λ (o : Op). record { orderings = writtenOf (b .state) (c .task) (c .object) false; op = o }) (op-read (c .object) (getD (b .memory) (c .object) 0) (c .value))
+      go false = refl
 
 -- memory by object, after an access to one of its objects
 pub memory-after : (memory : List ℕ) (object : ℕ) (write : Bool) (value : ℕ) → object < length memory

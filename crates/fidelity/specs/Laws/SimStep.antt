@@ -2,16 +2,17 @@
 use mathlib.Core.Bool.{true, false}
 use mathlib.Core.List.{List, _∷_}
 use mathlib.Core.Option.{some}
-use mathlib.Core.Path.{_≡_, sym, ap, _∙_}
+use mathlib.Core.Logic.{inl, inr}
+use mathlib.Core.Path.{_≡_, refl, sym, ap, _∙_}
 use Prim.Native.Nat.{ℕ, suc, _+_, _<_}
 use native.Mathlib.Omega.{arith}
 use native.Mathlib.Decide.{ℕ-discrete}
-use borrow.Author.Tests.{eq-eqb, ne-eqb, eqb-true}
+use borrow.Author.Tests.{eq-eqb, ne-eqb, eqb-true, eqb-false}
 use lib.ListN.{length, getD}
 use lib.Seq.{getD-set-same, getD-set-other}
 use Rattle.codec.specs.declared.Op.{Op}
 use Rattle.codec.specs.Laws.Decide.{never}
-use Rattle.codec.specs.Laws.Encode.{op-reads, op-writes, op-object, op-value}
+use Rattle.codec.specs.Laws.Encode.{op-reads, op-writes, op-object, op-value, op-valued}
 use Rattle.codec.specs.Kind.{reads, writes}
 use Rattle.codec.specs.Limit.{maxTasks}
 use Rattle.entries.specs.Bytes.{entryLength}
@@ -19,23 +20,29 @@ use Rattle.entries.specs.Reading.{read}
 use Rattle.entries.specs.Recording.{Entry as FileEntry}
 use Rattle.history.specs.Entry.{Act, Entry}
 use Rattle.history.specs.History.{History, count, At}
+use Rattle.history.specs.Sound.{Sound}
 use Rattle.history.specs.Access.{Access}
 use Rattle.history.specs.Replay.{State, isReady, oneMore, perform, shown, step, answer, takes}
+use Rattle.history.specs.Laws.Advance.{shown-recorded}
 use Rattle.history.specs.Laws.Ready.{access-next}
+use Rattle.history.specs.Laws.Run.{kept-step}
 use Rattle.history.specs.Laws.Step.{Taken, Refused, taken, refused, step-goes}
 use Rattle.pending.specs.declared.TaskRun.{TaskRun}
 use Rattle.replayer.specs.declared.Stepped.{Stepped}
 use Rattle.replayer.specs.Laws.Left.{Left, left-entry, left-own, left-other}
-use Rattle.replayer.specs.Memory.{performed, valueOf}
+use Rattle.replayer.specs.Memory.{performed, valueOf, agrees}
 use Rattle.pending.specs.Laws.Moved.{moved-own, moved-other}
+use Rattle.pending.specs.Laws.Next.{OpenEntry}
+use Rattle.pending.specs.Next.{entryNext}
 use Rattle.pending.specs.Run.{taskAt, doneOf, movedOf}
-use Rattle.replayer.specs.Laws.StepOf.{Taken as TakenBy, Turned, taken as takenBy, turned, step-goes as step-goes-by, step-keeps}
+use Rattle.replayer.specs.ReadyOf.{isReady as isReadyBy}
+use Rattle.replayer.specs.Laws.StepOf.{Taken as TakenBy, Turned, Barred, no-task, none-left, waiting, unread, taken as takenBy, turned, differing, step-goes as step-goes-by, step-keeps}
 use Rattle.fidelity.specs.Bench.{Bench, answerOf, stepped, takes as takesBy}
 use Rattle.fidelity.specs.Filed.{filed, filedOp}
 use Rattle.fidelity.specs.Laws.LeftOver.{leftOf, left-next}
 use Rattle.fidelity.specs.Laws.Matches.{Recordable}
-use Rattle.fidelity.specs.Laws.Sim.{Sim, sim-ready}
-use Rattle.fidelity.specs.Statement.{Shows}
+use Rattle.fidelity.specs.Laws.Sim.{Sim, sim-ready, sim-reads}
+use Rattle.fidelity.specs.Statement.{Shows, RefusedBy}
 
 -- an act done on a list and on a function that agree with each other
 perform-same : (a : Act) (memory : List ℕ) (m : ℕ → ℕ) (n : ℕ) → ((c : ℕ) → c < n → getD memory c 0 ≡ m c) → length memory ≡ n → filedOp a .object < n → Recordable a
@@ -51,8 +58,17 @@ perform-same (Act.acquire n₁) memory m n e l low r c k = absurd r
 shows-same : (a : Act) (memory : List ℕ) (m : ℕ → ℕ) (n : ℕ) → ((c : ℕ) → c < n → getD memory c 0 ≡ m c) → filedOp a .object < n → Recordable a
     → (r : Stepped) → r .kind ≡ filedOp a .kind → r .object ≡ filedOp a .object → r .value ≡ valueOf (filedOp a) memory → Shows r (shown a m)
 shows-same (Act.read x v) memory m n e low rec r k o w = (ap reads k ∙ op-reads false x v, o ∙ op-object false x v, w ∙ rw (op-writes false x v, op-object) (e x (rw op-object at low)))
-shows-same (Act.write x v) memory m n e low rec r k o w = (ap writes k ∙ op-writes true x v, o ∙ op-object true x v, w ∙ rw (op-writes true x v) (op-value x v))
+shows-same (Act.write x v) memory m n e low rec r k o w = (ap writes k ∙ op-writes true x v, o ∙ op-object true x v, w ∙ rw (op-writes true x v) (op-value true x v))
 shows-same (Act.acquire x) memory m n e low rec r k o w = absurd rec
+
+-- a memory that shows a read's value agrees with its record
+agrees-same : (a : Act) (memory : List ℕ) (m : ℕ → ℕ) (n : ℕ) → ((c : ℕ) → c < n → getD memory c 0 ≡ m c) → filedOp a .object < n → Recordable a → shown a m ≡ a
+    → agrees (filedOp a) memory ≡ true
+agrees-same (Act.read x v) memory m n e low rec q =
+    let k : m x ≡ v = cc in
+    rw (op-valued false x v, op-object, op-value, e x (rw op-object at low), k) (eq-eqb v v refl)
+agrees-same (Act.write x v) memory m n e low rec q = rw (op-valued true x v)
+agrees-same (Act.acquire x) memory m n e low rec q = absurd rec
 
 -- a taken step and its entry
 pub record Played (h : History) (bytes : List ℕ) (s : State) (b : Bench) (t : ℕ) (e : Entry) : Type 0 where
@@ -61,21 +77,24 @@ pub record Played (h : History) (bytes : List ℕ) (s : State) (b : Bench) (t : 
   pub number : answerOf bytes b t .access ≡ suc (s .done t)
   pub shows : Shows (answerOf bytes b t) (shown (e .act) (s .memory))
 
-pub record Alike (h : History) (bytes : List ℕ) (tasks objects : ℕ) (s : State) (b : Bench) (t : ℕ) : Type 0 where
+pub record Alike (start : ℕ → ℕ) (h : History) (bytes : List ℕ) (tasks objects : ℕ) (s : State) (b : Bench) (t : ℕ) : Type 0 where
   pub same : takesBy bytes b t ≡ takes h s t
-  pub sim : Sim h bytes tasks objects (step h s t) (stepped bytes b t)
+  pub sim : Sim start h bytes tasks objects (step h s t) (stepped bytes b t)
   pub played : takesBy bytes b t ≡ true → (e : Entry) × Played h bytes s b t e
+  pub barred : takesBy bytes b t ≡ false → RefusedBy (answerOf bytes b t .number)
 
--- every entry is one that a recording with this number of tasks can hold
-pub record Holds (h : History) (tasks : ℕ) : Type 0 where
+-- the history is sound, and every entry is one that a recording with this number of tasks can hold
+pub record Holds (start : ℕ → ℕ) (h : History) (tasks : ℕ) : Type 0 where
+  pub sound : Sound start h
   pub low : {e : Entry} {g : History} → At e g h → e .task < tasks
   pub recordable : {e : Entry} {g : History} → At e g h → Recordable (e .act)
 
-module _ (h : History) (bytes : List ℕ) (tasks objects : ℕ) (holds : Holds h tasks) (s : State) (b : Bench) (i : Sim h bytes tasks objects s b) (t : ℕ) where
-  -- both are taken
-  module _ (op : Op) (nx : ℕ) (w : TakenBy (b .run) bytes (b .memory) t op nx) (e : Entry) (k : Taken h s t e) where
+module _ (start : ℕ → ℕ) (h : History) (bytes : List ℕ) (tasks objects : ℕ) (holds : Holds start h tasks) (s : State) (b : Bench) (i : Sim start h bytes tasks objects s b) (t : ℕ) where
+  -- the next access on the bench is the next entry of the history
+  module _ (op : Op) (nx : ℕ) (run-below : t < b .run .tasks) (w : OpenEntry (b .run .runs) (taskAt (b .run .runs) t .place) (entryNext (b .run) bytes t) op nx) (low : op .object < length (b .memory))
+      (e : Entry) (k : Taken h s t e) where
     below : t < tasks
-    below = omega (arith, w .below, i .tasks-same)
+    below = omega (arith, run-below, i .tasks-same)
 
     first : leftOf t (s .done t) h ≡ filed e ∷ leftOf t (suc (s .done t)) h
     first = left-next t (s .done t) h e (access-next (k .access))
@@ -83,22 +102,27 @@ module _ (h : History) (bytes : List ℕ) (tasks objects : ℕ) (holds : Holds h
     left-now : Left (b .run) bytes t (filed e ∷ leftOf t (suc (s .done t)) h)
     left-now = rw first at (i .left t below)
 
-    entry-is : w .entry .entry ≡ filed e
+    entry-is : w .entry ≡ filed e
     entry-is =
-        let p : read (w .entry .entry) ≡ read (filed e) = sym (w .entry .reads) ∙ left-entry (b .run) bytes t (filed e) (leftOf t (suc (s .done t)) h) left-now in
+        let p : read (w .entry) ≡ read (filed e) = sym (w .reads) ∙ left-entry (b .run) bytes t (filed e) (leftOf t (suc (s .done t)) h) left-now in
         cc
 
     op-is : op ≡ filedOp (e .act)
-    op-is = w .entry .op ∙ ap (λ (f : FileEntry). f .op) entry-is
+    op-is = w .op ∙ ap (λ (f : FileEntry). f .op) entry-is
 
     next-is : nx ≡ taskAt (b .run .runs) t .place + entryLength (filed e)
-    next-is = w .entry .next ∙ ap (λ (f : FileEntry). taskAt (b .run .runs) t .place + entryLength f) entry-is
+    next-is = w .next ∙ ap (λ (f : FileEntry). taskAt (b .run .runs) t .place + entryLength f) entry-is
 
     few : t < maxTasks
-    few = omega (arith, w .below, Rattle.pending.specs.Laws.Sound.sound-facts (b .run) (length bytes) (i .sound) .few-tasks)
+    few = omega (arith, run-below, Rattle.pending.specs.Laws.Sound.sound-facts (b .run) (length bytes) (i .sound) .few-tasks)
 
     object-low : filedOp (e .act) .object < objects
-    object-low = let o : op .object < objects = omega (arith, w .object, i .entries) in rw op-is at o
+    object-low = let o : op .object < objects = omega (arith, low, i .entries) in rw op-is at o
+
+    -- the memory shows what the box's access got, so it agrees with the record
+    memory-agrees : agrees op (b .memory) ≡ true
+    memory-agrees = rw op-is (agrees-same (e .act) (b .memory) (s .memory) objects (i .memory) object-low (holds .recordable (k .access .at))
+        (shown-recorded (s .done) t (k .access) (i .kept .closed) (k .met) (holds .sound) (s .memory) (i .kept .holds)))
 
     done-moved : (u : ℕ) → doneOf (movedOf (b .run) t nx .runs) u ≡ oneMore t (s .done) u
     unfolding oneMore
@@ -122,42 +146,59 @@ module _ (h : History) (bytes : List ℕ) (tasks objects : ℕ) (holds : Holds h
       | no p ↦ rw (ne-eqb u t p) (left-other (b .run) bytes u t nx (leftOf u (s .done u) h) p (i .left u l))
     ]
 
-    both-taken : Alike h bytes tasks objects s b t
+  -- both are taken
+  module _ (op : Op) (nx : ℕ) (w : TakenBy (b .run) bytes (b .memory) t op nx) (e : Entry) (k : Taken h s t e) where
+    abbrev is : op ≡ filedOp (e .act)
+    is = op-is op nx (w .below) (w .entry) (w .object) e k
+
+    abbrev low : filedOp (e .act) .object < objects
+    low = object-low op nx (w .below) (w .entry) (w .object) e k
+
+    both-taken : Alike start h bytes tasks objects s b t
     both-taken =
         let keep = step-keeps (b .run) bytes (b .memory) t (i .sound) (i .shaped) (i .entries ∙ sym (i .objects-same)) in
         record {
           same = rw (w .number, k .answers);
-          sim = rw (k .moves) (record {
+          sim = record {
+            kept = kept-step (holds .sound) s t (i .kept);
             sound = keep .sound;
             shaped = keep .shaped;
             tasks-same = keep .tasks ∙ i .tasks-same;
             objects-same = keep .objects ∙ i .objects-same;
             entries = keep .entries ∙ i .entries;
-            done = λ u. rw (w .run) (done-moved u);
-            counts = λ u l. rw (w .run) (counts-moved u l);
-            left = λ u l. rw (w .run) (left-moved u l);
-            memory = λ c l. rw (w .after, op-is) (perform-same (e .act) (b .memory) (s .memory) objects (i .memory) (i .entries) object-low (holds .recordable (k .access .at)) c l);
-          });
+            done = λ u. rw (k .moves, w .run) (done-moved op nx (w .below) (w .entry) (w .object) e k u);
+            counts = λ u l. rw (w .run) (counts-moved op nx (w .below) (w .entry) (w .object) e k u l);
+            left = λ u l. rw (k .moves, w .run) (left-moved op nx (w .below) (w .entry) (w .object) e k u l);
+            memory = λ c l. rw (k .moves, w .after, is) (perform-same (e .act) (b .memory) (s .memory) objects (i .memory) (i .entries) low (holds .recordable (k .access .at)) c l);
+          };
           played = λ z. (
             e,
             record {
               access = k .access;
               replies = k .answers;
               number = w .access ∙ (omega (arith, i .done t));
-              shows = shows-same (e .act) (b .memory) (s .memory) objects (i .memory) object-low (holds .recordable (k .access .at)) (answerOf bytes b t)
-                  (w .kind ∙ ap (λ (o : Op). o .kind) op-is) (w .names ∙ ap (λ (o : Op). o .object) op-is) (w .value ∙ ap (λ (o : Op). valueOf o (b .memory)) op-is);
+              shows = shows-same (e .act) (b .memory) (s .memory) objects (i .memory) low (holds .recordable (k .access .at)) (answerOf bytes b t)
+                  (w .kind ∙ ap (λ (o : Op). o .kind) is) (w .names ∙ ap (λ (o : Op). o .object) is) (w .value ∙ ap (λ (o : Op). valueOf o (b .memory)) is);
             },
           );
+          barred = λ z. absurd (eqb-false _ _ z (w .number));
         }
 
   -- neither is taken
-  neither : Turned (b .run) bytes (b .memory) t → Refused h s t → Alike h bytes tasks objects s b t
-  neither w k =
+  refused-by : (t < b .run .tasks → isReadyBy (b .run) bytes t ≡ false) → Barred (b .run) bytes (b .memory) t → RefusedBy (answerOf bytes b t .number)
+  refused-by u (no-task e) = inl e
+  refused-by u (none-left e) = inr (inl e)
+  refused-by u (waiting e) = inr (inr e)
+  refused-by u (unread c l q n) = absurd (sim-reads start h bytes tasks objects s b i t (omega (arith, i .tasks-same)) q c n)
+
+  neither : RefusedBy (answerOf bytes b t .number) → Turned (b .run) bytes (b .memory) t → Refused h s t → Alike start h bytes tasks objects s b t
+  neither f w k =
       let e : answerOf bytes b t .run ≡ b .run = ap (λ (x : Stepped). x .run) (w .answer) in
       record {
         same = ne-eqb (answerOf bytes b t .number) 0 (w .number) ∙ rw (k .silent);
         sim = rw (k .stays, e, w .after) i;
         played = λ z. absurd (w .number (eqb-true _ _ z));
+        barred = λ z. f;
       }
 
   -- the history's test for readiness and the bench's
@@ -167,16 +208,23 @@ module _ (h : History) (bytes : List ℕ) (tasks objects : ℕ) (holds : Holds h
     | refused k ↦ absurd (never (isReady h s t) p (k .unready))
   ]
 
-  pub sim-step : Alike h bytes tasks objects s b t
+  ready-both : t < b .run .tasks → isReadyBy (b .run) bytes t ≡ true → isReady h s t ≡ true
+  ready-both l p = sym (sim-ready start h bytes tasks objects s b i t (omega (arith, i .tasks-same))) ∙ p
+
+  pub sim-step : Alike start h bytes tasks objects s b t
   sim-step = elim (step-goes-by (b .run) bytes (b .memory) t (i .sound) (i .entries ∙ sym (i .objects-same))) [
     | takenBy op nx w ↦ elim (step-goes h s t) [
       | taken e k ↦ both-taken op nx w e k
-      | refused k ↦ absurd (never (isReady h s t) (sym (sim-ready h bytes tasks objects s b i t (omega (arith, w .below, i .tasks-same))) ∙ w .ready) (k .unready))
+      | refused k ↦ absurd (never (isReady h s t) (ready-both (w .below) (w .ready)) (k .unready))
     ]
-    | turned u w ↦ elim (step-goes h s t) [
-      | refused k ↦ neither w k
+    | turned u f w ↦ elim (step-goes h s t) [
+      | refused k ↦ neither (refused-by u f) w k
       | taken e k ↦
           let l : t < tasks = ready-low (k .ready) in
-          absurd (never (isReady h s t) (k .ready) (sym (sim-ready h bytes tasks objects s b i t l) ∙ u (omega (arith, i .tasks-same))))
+          absurd (never (isReady h s t) (k .ready) (sym (sim-ready start h bytes tasks objects s b i t l) ∙ u (omega (arith, i .tasks-same))))
+    ]
+    | differing op nx d w ↦ elim (step-goes h s t) [
+      | refused k ↦ absurd (never (isReady h s t) (ready-both (d .below) (d .ready)) (k .unready))
+      | taken e k ↦ absurd (never (agrees op (b .memory)) (memory-agrees op nx (d .below) (d .entry) (d .object) e k) (d .differs))
     ]
   ]

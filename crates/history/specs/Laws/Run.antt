@@ -26,14 +26,14 @@ pub record Kept (start : ℕ → ℕ) (h : History) (s : State) : Type 0 where
   pub bounded : (t : ℕ) → s .done t ≤ count t h
   pub holds : (c : ℕ) → s .memory c ≡ memoryOf start (s .done) h c
 
-kept-fresh : (start : ℕ → ℕ) (h : History) → Kept start h (fresh start)
+pub kept-fresh : (start : ℕ → ℕ) (h : History) → Kept start h (fresh start)
 kept-fresh start h = record {
   closed = record { met = λ a i. absurd (omega arith) };
   bounded = λ t. omega arith;
   holds = λ c. sym (memory-start start (λ t. 0) (λ t. refl) h c);
 }
 
-kept-step : {start : ℕ → ℕ} {h : History} → Sound start h → (s : State) (t : ℕ) → Kept start h s → Kept start h (step h s t)
+pub kept-step : {start : ℕ → ℕ} {h : History} → Sound start h → (s : State) (t : ℕ) → Kept start h s → Kept start h (step h s t)
 kept-step {start} {h} so s t k = elim (step-goes h s t) [
   | refused r ↦ rw (r .stays) k
   | taken e r ↦ rw (r .moves) (record {

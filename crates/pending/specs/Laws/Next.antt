@@ -1,5 +1,5 @@
 -- Facts about an access that may be done: it was read from the task's place, its object is below N, and it ends within the body.
-use mathlib.Core.Path.{_≡_, refl}
+use mathlib.Core.Path.{_≡_, refl, ap}
 use mathlib.Core.Bool.{Bool, true, false, cond}
 use mathlib.Core.List.{List}
 use Prim.Native.Nat.{ℕ, _+_, _≤_, _<_}
@@ -11,6 +11,7 @@ use Rattle.entries.specs.declared.entry.Found.the-variants.{Access as FoundAcce
 use Rattle.entries.specs.Reading.{stop, Reading, refused, read}
 use Rattle.codec.specs.declared.Op.{Op}
 use Rattle.codec.specs.Laws.Decide.{passes, fails, split}
+use Rattle.codec.specs.Encode.{opLength}
 use Rattle.codec.specs.Kind.{isAccess}
 use Rattle.codec.specs.Number.{inBody, ByReader}
 use Rattle.entries.specs.Bytes.{entryLength}
@@ -88,6 +89,10 @@ module _ (r : Run) (b : List ℕ) (t : ℕ) where
       let e = w .next in
       (omega arith, omega arith)
 
+  -- an access's record ends where the next begins
+  pub next-long : (o : Op) (n : ℕ) → nextOf r b t ≡ Open o n → opLength o ≤ n
+  next-long o n h = let w = next-entry o n h in omega (arith, w .next, ap (λ (x : Op). opLength x) (w .op))
+
   -- a refusal's number is one of the reader's
   pub next-numbered : (c : Checked) → nextOf r b t ≡ Refused c → ByReader (c .number)
   unfolding nextOf entryNext
@@ -102,3 +107,12 @@ open-met runs at x e p = rw p (cases (allMet runs (e .orderings)))
     cases : (b : Bool) → isOpen (cond b (Open (e .op) (at + entryLength e)) Held) ≡ b
     cases true = refl
     cases false = refl
+
+-- and it is no refusal
+pub judged-reads : (runs : List TaskRun) (at : ℕ) (x : Reading Entry) (e : Entry) → x ≡ read e → (c : Checked) → judged runs at x ≡ Refused c → ⊥
+unfolding judged
+judged-reads runs at x e p c r = cases (allMet runs (e .orderings)) (rw p at r)
+  where
+    cases : (b : Bool) → cond b (Open (e .op) (at + entryLength e)) Held ≡ Refused c → ⊥
+    cases true h = let z : _≡_ {A = ℕ} 0 1 = cc in omega arith
+    cases false h = let z : _≡_ {A = ℕ} 0 1 = cc in omega arith

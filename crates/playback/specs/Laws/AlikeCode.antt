@@ -18,12 +18,13 @@ use Rattle.playback.specs.ToEnd.{playOf}
 use Rattle.reader.specs.Laws.Located.{away, found, located}
 
 -- the results of the two plays and the two tests on them
-pub compares : (x y : Play) (p q : Played) (m n : List ℕ) (s a : Bool) → p ≡ shownPlay x → q ≡ shownPlay y → m ≡ x .memory → n ≡ y .memory → s ≡ sameEntries m n → a ≡ alikeOf p q s → a ≡ comparing x y .answer .alike
-compares x y p q m n s a e f g h i j = rw (j, i, e, f, g, h)
+pub compares : (b c : List ℕ) (x y : Play) (p q : Played) (m n : List ℕ) (s a : Bool) → p ≡ shownPlay b x → q ≡ shownPlay c y → m ≡ x .memory → n ≡ y .memory → s ≡ sameEntries m n → a ≡ alikeOf p q s
+    → a ≡ comparing b c x y .answer .alike
+compares b c x y p q m n s a e f g h i j = rw (j, i, e, f, g, h)
 
-pub both-ended : (x y : Play) (m n : List ℕ) (a : Bool) → a ≡ comparing x y .answer .alike → m ≡ x .memory → n ≡ y .memory
-    → record { answer = record { number = 0; offset = 0; alike = a }; first = m; second = n } ≡ comparing x y
-both-ended x y m n a e g h = rw (e, g, h)
+pub both-ended : (b c : List ℕ) (x y : Play) (m n : List ℕ) (a : Bool) → a ≡ comparing b c x y .answer .alike → m ≡ x .memory → n ≡ y .memory
+    → record { answer = record { number = 0; offset = 0; alike = a }; first = m; second = n } ≡ comparing b c x y
+both-ended b c x y m n a e g h = rw (e, g, h)
 
 -- the comparison by the tests in order
 module _ (b c m n : List ℕ) (l : Layout) (e : l ≡ layoutOf (parse b)) where
@@ -61,7 +62,7 @@ module _ (b c m n : List ℕ) (l : Layout) (e : l ≡ layoutOf (parse b)) where
           ]
         ]
 
-        pub both-play : length n ≡ k .objects → comparing (playOf b m) (playOf c n) ≡ sameOutcomeOf b c m n
+        pub both-play : length n ≡ k .objects → comparing b c (playOf b m) (playOf c n) ≡ sameOutcomeOf b c m n
         unfolding sameOutcomeOf compared
         both-play h = elim (located b l e) [
           | away d q i o p ↦ absurd (omega (arith, p .0))

@@ -1,19 +1,25 @@
--- One pass of the play to the end: the lowest ready task's access is done on the memory, and the run after it.
+-- One pass of the play to the end: the lowest ready task's access is done on the memory if the memory agrees with it, and the run after it.
 use mathlib.Core.Path.{_≡_, refl, sym, ap, _∙_}
-use mathlib.Core.Bool.{Bool}
+use mathlib.Core.Bool.{Bool, true, false, not}
 use mathlib.Core.List.{List}
-use Prim.Native.Nat.{ℕ, _+_}
+use Prim.Native.Nat.{ℕ, _+_, _<_}
 use native.Mathlib.Omega.{arith}
+use borrow.Author.Tests.{eq-eqb, ne-eqb}
 use Rattle.codec.specs.declared.Op.{Op}
+use Rattle.codec.specs.Laws.Decide.{passes, fails, split, never}
+use Rattle.codec.specs.Limit.{maxTasks}
+use Rattle.codec.specs.Number.{differs}
+use Rattle.entries.specs.Reading.{stop}
+use Rattle.pending.specs.Laws.All.{all-facts}
 use Rattle.pending.specs.declared.Run.{Run}
-use Rattle.scheduler.specs.Finish.{Play, onward, leftOver, finishOf, finishedOf}
-use Rattle.playback.specs.Shown.{shownPlay}
-use Rattle.scheduler.specs.Laws.Finish.{Playing, Onward, goes-onward, finish-on, finish-end}
-use Rattle.scheduler.specs.Laws.Lowest.{IsNext, step-open}
-use Rattle.replayer.specs.Memory.{performed}
-use Rattle.replayer.specs.ReadyOf.{readyOf}
+use Rattle.scheduler.specs.Finish.{Play, goesOn, onward, leftOver, finishOf, tasksIn, isDone, finishedOf}
+use Rattle.playback.specs.Shown.{stoppedOf, shownPlay}
+use Rattle.scheduler.specs.Laws.Finish.{Playing, Onward, goes-onward, none-stops, finish-on, finish-end}
+use Rattle.scheduler.specs.Laws.Lowest.{IsNext, step-agrees, step-differs}
+use Rattle.replayer.specs.Memory.{performed, agrees}
+use Rattle.replayer.specs.ReadyOf.{hasLeft, readyOf}
 use Rattle.pending.specs.Run.{movedOf}
-use Rattle.replayer.specs.StepOf.{onNext}
+use Rattle.replayer.specs.StepOf.{recordAt}
 
 -- a play under way: each step leaves one access fewer, and the end it will reach is the same
 pub record Going (b : List ℕ) (start x : Play) : Type 0 where
@@ -24,18 +30,40 @@ pub record Going (b : List ℕ) (start x : Play) : Type 0 where
 pub going-start : (b : List ℕ) (x : Play) → Playing b x → x .steps ≡ 0 → Going b x x
 going-start b x w z = record { playing = w; steps = omega arith; same = refl }
 
+-- a run with accesses left to a task has not finished
+left-unfinished : (r : Run) (t : ℕ) → t < r .tasks → t < maxTasks → hasLeft r t ≡ true → finishedOf r ≡ false
+left-unfinished r t h k l = elim (split (finishedOf r)) [
+  | fails p ↦ p
+  | passes p ↦ absurd (never (not (hasLeft r t)) (all-facts (isDone r) (tasksIn (r .tasks)) p t (omega arith)) (rw l))
+]
+
 module _ (b : List ℕ) (start x : Play) (g : Going b start x) where
-  pub going-on : (t : ℕ) (op : Op) (next : ℕ) → IsNext (x .run) b t op next → (r : Run) (m : List ℕ) → r ≡ movedOf (x .run) t next → m ≡ performed op (x .memory)
-      → Going b start (record { run = r; memory = m; steps = x .steps + 1 })
-  unfolding onward onNext
-  going-on t op next n r m q e =
-      let o : Onward b x = goes-onward b x (g .playing) (n .goes) in
-      let s : onward b x ≡ record { run = r; memory = m; steps = x .steps + 1 } = rw (n .first, step-open b x (g .playing) t op next n, q, e) in
-      rw (← s) (record { playing = o .playing; steps = omega (arith, o .fewer, g .steps); same = sym (finish-on b x (g .playing) (n .goes)) ∙ g .same })
+  module _ (t : ℕ) (op : Op) (next : ℕ) (n : IsNext (x .run) b t op next) where
+    pub going-on : agrees op (x .memory) ≡ true → (r : Run) (m : List ℕ) → r ≡ movedOf (x .run) t next → m ≡ performed op (x .memory)
+        → Going b start (record { run = r; memory = m; steps = x .steps + 1 })
+    unfolding onward
+    going-on a r m q e =
+        let d = step-agrees b x (g .playing) t op next n a in
+        let z : goesOn b x ≡ true = rw (n .first, d) in
+        let o : Onward b x = goes-onward b x (g .playing) z in
+        let s : onward b x ≡ record { run = r; memory = m; steps = x .steps + 1 } = rw (n .first, d, q, e) in
+        rw (← s) (record { playing = o .playing; steps = omega (arith, o .fewer, g .steps, ap (λ (y : Play). y .steps) s); same = sym (finish-on b x (g .playing) z) ∙ g .same })
+
+    -- the memory differs from the read's record: the answer
+    pub going-stopped : agrees op (x .memory) ≡ false → (at : ℕ) → at ≡ recordAt op next
+        → (record { tasks = x .run .tasks; objects = x .run .objects; steps = x .steps; finished = false; stopped = stop differs at } ≡ shownPlay b (finishOf b start))
+        × (x .memory ≡ finishOf b start .memory)
+    going-stopped a at e =
+        let d = step-differs b x (g .playing) t op next n a in
+        let q : x ≡ finishOf b start = sym (finish-end b x (rw (n .first, d))) ∙ g .same in
+        let f : finishedOf (x .run) ≡ false = left-unfinished (x .run) t (n .below) (n .few) (n .left) in
+        let s : stoppedOf b x ≡ stop differs at = rw (ne-eqb (readyOf (x .run) b .word) 0 (n .goes), n .first, d, e) in
+        (rw (← s, ← f) (ap (shownPlay b) q), ap (λ (y : Play). y .memory) q)
 
   -- no task is ready: the answer
   pub going-end : readyOf (x .run) b .word ≡ 0 → (f : Bool) → f ≡ finishedOf (x .run)
-      → (record { tasks = x .run .tasks; objects = x .run .objects; steps = x .steps; finished = f } ≡ shownPlay (finishOf b start)) × (x .memory ≡ finishOf b start .memory)
+      → (record { tasks = x .run .tasks; objects = x .run .objects; steps = x .steps; finished = f; stopped = stop 0 0 } ≡ shownPlay b (finishOf b start)) × (x .memory ≡ finishOf b start .memory)
   going-end z f e =
-      let q : x ≡ finishOf b start = sym (finish-end b x z) ∙ g .same in
-      rw e (ap shownPlay q, ap (λ (y : Play). y .memory) q)
+      let q : x ≡ finishOf b start = sym (finish-end b x (none-stops b x (g .playing) z)) ∙ g .same in
+      let s : stoppedOf b x ≡ stop 0 0 = rw (eq-eqb (readyOf (x .run) b .word) 0 z) in
+      (rw (e, ← s) (ap (shownPlay b) q), ap (λ (y : Play). y .memory) q)

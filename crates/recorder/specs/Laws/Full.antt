@@ -38,7 +38,7 @@ takes b n w h = record {
     sort-known = omega arith;
     memory-each = omega (arith, w .memory, w .objects);
   };
-  room = omega (arith, entry-bound (b .state) 0 0 false 0 (omega (arith, w .tasks)));
+  room = omega (arith, entry-bound (b .state) 0 0 false (omega (arith, w .tasks)));
 }
 
 stands-more : (b : Box) (n : ℕ) → Stands b n → n < 65535 → Stands (called b again) (n + 1)

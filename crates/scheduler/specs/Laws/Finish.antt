@@ -1,6 +1,6 @@
--- A play reaches its end: each step of a ready task leaves one access fewer, so the allowed number of steps is never used up before, and
--- at the end no task is ready.
-use mathlib.Core.Path.{_≡_, refl, sym, _∙_}
+-- A play reaches its end: each step taken leaves one access fewer, so the allowed number of steps is never used up before, and at the end
+-- no task is ready, or the step of the lowest ready one gives 19.
+use mathlib.Core.Path.{_≡_, refl, sym, ap, _∙_}
 use mathlib.Core.Bool.{Bool, true, false}
 use mathlib.Core.List.{List}
 use Prim.Native.Nat.{ℕ, zero, suc, _+_, _≤_, _<_}
@@ -8,19 +8,21 @@ use native.Mathlib.Nat.{add-zero}
 use native.Mathlib.Omega.{arith}
 use native.Mathlib.Decide.{ℕ-discrete}
 use lib.ListN.{length}
-use borrow.Author.Tests.{eq-eqb, ne-eqb}
-use Rattle.codec.specs.Laws.Decide.{never}
+use borrow.Author.Tests.{ne-eqb, eqb-true, eqb-false}
+use Rattle.codec.specs.declared.Op.{Op}
+use Rattle.codec.specs.Laws.Decide.{passes, fails, split, never}
 use Rattle.codec.specs.Limit.{maxTasks}
 use Rattle.pending.specs.declared.Run.{Run}
-use Rattle.scheduler.specs.Finish.{Play, wordAt, taskNext, onward, playedOf, leftIn, leftOver, finishOf, tasksIn}
+use Rattle.scheduler.specs.Finish.{Play, wordAt, taskNext, goesOn, onward, playedOf, leftIn, leftOver, finishOf, tasksIn}
 use Rattle.pending.specs.Laws.Moved.{Shaped, moved-own, moved-other, moved-tasks}
 use Rattle.replayer.specs.Laws.ReadyOf.{ready, nowhere, ready-word}
 use Rattle.replayer.specs.ReadyOf.{isReady, readyOf}
 use Rattle.pending.specs.Run.{taskAt, movedOf}
 use Rattle.pending.specs.Sound.{soundOf}
 use Rattle.pending.specs.Laws.Sound.{sound-facts}
-use Rattle.replayer.specs.Laws.StepOf.{taken, turned, step-goes, step-keeps}
-use Rattle.replayer.specs.Word.{wordOf}
+use Rattle.replayer.specs.Laws.StepOf.{Differs, taken, turned, differing, step-goes, step-keeps}
+use Rattle.replayer.specs.Word.{wordOf, hasBit}
+use Rattle.replayer.specs.Laws.Word.{zero-bit}
 
 -- a sound run with a memory of N entries
 pub record Playing (b : List ℕ) (x : Play) : Type 0 where
@@ -63,6 +65,11 @@ pub record Onward (b : List ℕ) (x : Play) : Type 0 where
   pub playing : Playing b (onward b x)
   pub fewer : leftOver (onward b x .run) + 1 ≡ leftOver (x .run)
 
+-- a play that does not go on: no task is ready, or the step of the lowest ready one gives 19
+pub data Ends (b : List ℕ) (x : Play) : Type 0 where
+  none-ready : wordAt b x ≡ 0 → Ends b x
+  stopped : (op : Op) (next : ℕ) → Differs (x .run) b (x .memory) (taskNext b x) op next → Ends b x
+
 module _ (b : List ℕ) (x : Play) (w : Playing b x) where
   kept : Playing b (onward b x)
   unfolding onward
@@ -70,47 +77,79 @@ module _ (b : List ℕ) (x : Play) (w : Playing b x) where
       let k = step-keeps (x .run) b (x .memory) (taskNext b x) (w .sound) (w .shaped) (w .entries) in
       record { sound = k .sound; shaped = k .shaped; entries = k .entries ∙ w .entries ∙ sym (k .objects) }
 
-  fewer-by : isReady (x .run) b (taskNext b x) ≡ true → taskNext b x < x .run .tasks → leftOver (onward b x .run) + 1 ≡ leftOver (x .run)
+  pub goes-onward : goesOn b x ≡ true → Onward b x
   unfolding onward
-  fewer-by p h = elim (step-goes (x .run) b (x .memory) (taskNext b x) (w .sound) (w .entries)) [
-    | taken op next g ↦
-        rw (g .run, moved-tasks (x .run) (taskNext b x) next)
-        (left-less (x .run) (taskNext b x) next (x .run .tasks) (w .shaped) (omega (arith, h, sound-facts (x .run) (length b) (w .sound) .few-tasks)) (g .left) h)
-    | turned u g ↦ absurd (never (isReady (x .run) b (taskNext b x)) p (u h))
+  goes-onward z = elim (step-goes (x .run) b (x .memory) (taskNext b x) (w .sound) (w .entries)) [
+    | taken op next g ↦ record {
+      playing = kept;
+      fewer = rw (g .run, moved-tasks (x .run) (taskNext b x) next)
+          (left-less (x .run) (taskNext b x) next (x .run .tasks) (w .shaped) (omega (arith, g .below, sound-facts (x .run) (length b) (w .sound) .few-tasks)) (g .left) (g .below));
+    }
+    | turned u f g ↦ absurd (g .number (eqb-true _ _ z))
+    | differing op next d g ↦ absurd (g .number (eqb-true _ _ z))
   ]
 
-  pub goes-onward : (wordAt b x ≡ 0 → ⊥) → Onward b x
-  goes-onward z = elim (ready-word (x .run) b (w .sound) .lowest) [
-    | ready h p g ↦ record { playing = kept; fewer = fewer-by (let e : 0 + taskNext b x ≡ taskNext b x = omega arith in rw e at p) h }
-    | nowhere e g ↦ absurd (z (ready-word-zero (x .run) b (w .sound) (λ t h. let e : 0 + t ≡ t = omega arith in rw e at (g t h))))
+  -- the lowest ready task, if one is ready
+  pub none-or-lowest : (taskNext b x < x .run .tasks → isReady (x .run) b (taskNext b x) ≡ false) → wordAt b x ≡ 0
+  none-or-lowest u = elim (ready-word (x .run) b (w .sound) .lowest) [
+    | ready h p g ↦ absurd (never (isReady (x .run) b (taskNext b x)) (let e : 0 + taskNext b x ≡ taskNext b x = omega arith in rw e at p) (u h))
+    | nowhere e g ↦ ready-word-zero (x .run) b (w .sound) (λ t h. let e : 0 + t ≡ t = omega arith in rw e at (g t h))
+  ]
+
+  pub goes-ends : goesOn b x ≡ false → Ends b x
+  goes-ends z = elim (step-goes (x .run) b (x .memory) (taskNext b x) (w .sound) (w .entries)) [
+    | taken op next g ↦ absurd (eqb-false _ _ z (g .number))
+    | turned u f g ↦ none-ready (none-or-lowest u)
+    | differing op next d g ↦ stopped op next d
+  ]
+
+  -- a ready task is in the word
+  pub ready-some : (t : ℕ) → t < x .run .tasks → isReady (x .run) b t ≡ true → wordAt b x ≡ 0 → ⊥
+  ready-some t h p z = never (hasBit (wordAt b x) t) (ready-word (x .run) b (w .sound) .bit t h ∙ p) (ap (λ (n : ℕ). hasBit n t) z ∙ zero-bit t)
+
+  pub none-stops : wordAt b x ≡ 0 → goesOn b x ≡ false
+  none-stops z = elim (step-goes (x .run) b (x .memory) (taskNext b x) (w .sound) (w .entries)) [
+    | taken op next g ↦ absurd (ready-some (taskNext b x) (g .below) (g .ready) z)
+    | turned u f g ↦ ne-eqb _ 0 (g .number)
+    | differing op next d g ↦ ne-eqb _ 0 (g .number)
   ]
 
   -- the loop: one pass, and the end
-  pub finish-on : (wordAt b x ≡ 0 → ⊥) → finishOf b x ≡ finishOf b (onward b x)
+  pub finish-on : goesOn b x ≡ true → finishOf b x ≡ finishOf b (onward b x)
   unfolding playedOf
   finish-on z =
       let f : leftOver (x .run) ≡ suc (leftOver (onward b x .run)) = omega (arith, goes-onward z .fewer) in
-      rw (f, ne-eqb (wordAt b x) 0 z)
+      rw (f, z)
 
-stays-put : (n : ℕ) (b : List ℕ) (x : Play) → wordAt b x ≡ 0 → playedOf n b x ≡ x
+stays-put : (n : ℕ) (b : List ℕ) (x : Play) → goesOn b x ≡ false → playedOf n b x ≡ x
 unfolding playedOf
 stays-put zero b x z = refl
-stays-put (suc n) b x z = rw (eq-eqb (wordAt b x) 0 z)
+stays-put (suc n) b x z = rw z
 
-pub finish-end : (b : List ℕ) (x : Play) → wordAt b x ≡ 0 → finishOf b x ≡ x
+pub finish-end : (b : List ℕ) (x : Play) → goesOn b x ≡ false → finishOf b x ≡ x
 finish-end b x z = stays-put (leftOver (x .run)) b x z
 
--- the number of steps is enough: at the end no task is ready
-ends : (n : ℕ) (b : List ℕ) (x : Play) → Playing b x → leftOver (x .run) ≤ n → wordAt b (playedOf n b x) ≡ 0
+-- the number of steps is enough: at the end the play does not go on
+pub record Ended (b : List ℕ) (x : Play) : Type 0 where
+  pub playing : Playing b x
+  pub over : goesOn b x ≡ false
+
+plays-out : (n : ℕ) (b : List ℕ) (x : Play) → Playing b x → leftOver (x .run) ≤ n → Ended b (playedOf n b x)
 unfolding playedOf
-ends zero b x w h = elim (ℕ-discrete (wordAt b x) 0) [ yes z ↦ z | no z ↦ absurd (omega (arith, goes-onward b x w z .fewer)) ]
-ends (suc n) b x w h = elim (ℕ-discrete (wordAt b x) 0) [
-  | yes z ↦ rw (eq-eqb (wordAt b x) 0 z) z
-  | no z ↦ rw (ne-eqb (wordAt b x) 0 z) (ends n b (onward b x) (goes-onward b x w z .playing) (omega (arith, goes-onward b x w z .fewer)))
+plays-out zero b x w h = elim (split (goesOn b x)) [
+  | fails z ↦ record { playing = w; over = z }
+  | passes z ↦ absurd (omega (arith, goes-onward b x w z .fewer))
+]
+plays-out (suc n) b x w h = elim (split (goesOn b x)) [
+  | fails z ↦ rw z (record { playing = w; over = z })
+  | passes z ↦ rw z (plays-out n b (onward b x) (goes-onward b x w z .playing) (omega (arith, goes-onward b x w z .fewer)))
 ]
 
-pub finish-ends : (b : List ℕ) (x : Play) → Playing b x → wordAt b (finishOf b x) ≡ 0
-finish-ends b x w = ends (leftOver (x .run)) b x w (omega arith)
+pub finish-ended : (b : List ℕ) (x : Play) → Playing b x → Ended b (finishOf b x)
+finish-ended b x w = plays-out (leftOver (x .run)) b x w (omega arith)
+
+pub finish-ends : (b : List ℕ) (x : Play) → Playing b x → Ends b (finishOf b x)
+finish-ends b x w = let e = finish-ended b x w in goes-ends b (finishOf b x) (e .playing) (e .over)
 
 pub tasks-few : (tasks : ℕ) → tasksIn tasks ≤ maxTasks
 tasks-few tasks = omega arith

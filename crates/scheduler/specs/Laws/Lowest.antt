@@ -26,7 +26,9 @@ use Rattle.pending.specs.Laws.Next.{next-within}
 use Rattle.replayer.specs.Laws.ReadyOf.{LowestIs, ready, nowhere, ready-word}
 use Rattle.pending.specs.Run.{taskAt, movedOf}
 use Rattle.pending.specs.Sound.{soundOf}
-use Rattle.replayer.specs.StepOf.{onNext, stepOf}
+use Rattle.codec.specs.Number.{differs}
+use Rattle.replayer.specs.Memory.{agrees}
+use Rattle.replayer.specs.StepOf.{refusedStep, doneStep, recordAt, onNext, stepOf}
 use Rattle.replayer.specs.Laws.StepCode.{clear-early-number, step-next}
 use Rattle.pending.specs.Laws.Sound.{sound-facts, sound-test}
 use Rattle.scheduler.specs.Laws.Visit.{Noted, noted-onward}
@@ -158,10 +160,18 @@ behind r b t op next s h w =
       noted = noted-onward r b t op next h (w .few) (w .opens);
     }
 
--- what the step of the next task does
+-- what the step of the next task does: it is taken if the memory agrees with the access, else it gives 19
 module _ (b : List ℕ) (x : Play) (w : Playing b x) (t : ℕ) (op : Op) (next : ℕ) (n : IsNext (x .run) b t op next) where
-  pub step-open : stepOf (x .run) b (x .memory) t ≡ onNext (x .run) (x .memory) t (Open op next)
+  step-open : stepOf (x .run) b (x .memory) t ≡ onNext (x .run) (x .memory) t (Open op next)
   step-open =
       step-next (x .run) b (x .memory) t 0
       (sym (clear-early-number (x .run) (length b) (length (x .memory)) t (record { sound = w .sound; memory = w .entries; below = n .below; left = n .left })))
       refl (Open op next) (sym (n .opens))
+
+  pub step-agrees : agrees op (x .memory) ≡ true → stepOf (x .run) b (x .memory) t ≡ doneStep (x .run) (x .memory) t op next
+  unfolding onNext
+  step-agrees a = step-open ∙ rw a
+
+  pub step-differs : agrees op (x .memory) ≡ false → stepOf (x .run) b (x .memory) t ≡ record { answer = refusedStep (x .run) differs (recordAt op next); memory = x .memory }
+  unfolding onNext
+  step-differs a = step-open ∙ rw a

@@ -1,26 +1,29 @@
--- The order of a play: it is the order in which the play to the end steps the tasks, each of its steps is taken, and no task is ready
--- after it.
-use mathlib.Core.Path.{_≡_, refl, ap}
-use mathlib.Core.Bool.{true}
+-- The order of a play: it is the order in which the play to the end steps the tasks, up to the first step that is not taken; if no task is
+-- ready at the end, each of its steps is taken.
+use mathlib.Core.Path.{_≡_, refl, sym, ap, _∙_}
+use mathlib.Core.Bool.{true, false}
 use mathlib.Core.List.{List, [], _∷_}
 use Prim.Native.Nat.{ℕ, zero, suc, _≤_}
 use native.Mathlib.Decide.{ℕ-discrete}
 use native.Mathlib.Omega.{arith}
 use lib.ListN.{length}
-use borrow.Author.Tests.{eq-eqb, ne-eqb}
+use borrow.Author.Tests.{eq-eqb, ne-eqb, eqb-true}
 use Rattle.codec.specs.declared.Op.{Op}
+use Rattle.codec.specs.Laws.Decide.{passes, fails, split}
 use Rattle.pending.specs.declared.Run.{Run}
 use Rattle.pending.specs.declared.next.Next.the-variants.{Open}
-use Rattle.scheduler.specs.Finish.{Play, onward, playedOf, leftOver, finishOf}
-use Rattle.scheduler.specs.Laws.Finish.{Playing, goes-onward, finish-ends}
-use Rattle.scheduler.specs.Laws.Lowest.{IsNext, goes-on, stops, standing, behind, step-open}
+use Rattle.scheduler.specs.Finish.{Play, wordAt, taskNext, takesStep, steppedBy, goesOn, onward, playedOf, leftOver, finishOf}
+use Rattle.scheduler.specs.Laws.Finish.{Playing, goes-onward, none-stops}
+use Rattle.scheduler.specs.Laws.Lowest.{IsNext, goes-on, stops, standing, behind, step-agrees, step-differs}
 use Rattle.pending.specs.Laws.Moved.{Shaped, moved-shaped}
 use Rattle.pending.specs.Next.{nextOf}
 use Rattle.replayer.specs.ReadyOf.{readyOf}
 use Rattle.pending.specs.Run.{movedOf}
-use Rattle.scheduler.specs.Schedule.{nextTask, behindOf, scheduleFrom, scheduleOf, ranBy, settledOf, steppedBy, playedBy}
+use Rattle.scheduler.specs.Schedule.{nextTask, behindOf, scheduleFrom, scheduleOf, ranBy, settledOf, playedBy}
 use Rattle.pending.specs.Sound.{soundOf}
-use Rattle.replayer.specs.StepOf.{onNext, stepOf}
+use Rattle.replayer.specs.Laws.StepOf.{taken, turned, differing, step-goes, step-keeps}
+use Rattle.replayer.specs.Memory.{agrees}
+use Rattle.replayer.specs.StepOf.{stepOf}
 
 -- no task is ready, or the next one is stepped
 pub schedule-stops : (n : ℕ) (b : List ℕ) (r : Run) → readyOf r b .word ≡ 0 → scheduleFrom n b r ≡ []
@@ -71,38 +74,60 @@ unfoldable pub AllTaken : List ℕ → Play → List ℕ → Type 0
 AllTaken b x [] = Unit {0}
 AllTaken b x (t ∷ ts) = (stepOf (x .run) b (x .memory) t .answer .number ≡ 0) × AllTaken b (steppedBy b x t) ts
 
+-- a play that goes on takes the step of the next task
+taken-first : (b : List ℕ) (x : Play) (t : ℕ) (ts : List ℕ) → takesStep b x t ≡ true → playedBy b x (t ∷ ts) ≡ playedBy b (steppedBy b x t) ts
+unfolding playedBy
+taken-first b x t ts z = rw z
+
+-- a play is a list of taken steps
+pub record StepsTo (b : List ℕ) (x y : Play) : Type 0 where
+  pub steps : List ℕ
+  pub all : AllTaken b x steps
+  pub leads : playedBy b x steps ≡ y
+
+played-steps : (n : ℕ) (b : List ℕ) (x : Play) → StepsTo b x (playedOf n b x)
+unfolding playedOf playedBy onward AllTaken
+played-steps zero b x = record { steps = []; all = tt; leads = refl }
+played-steps (suc n) b x = elim (split (goesOn b x)) [
+  | fails z ↦ rw z (record { steps = []; all = tt; leads = refl })
+  | passes z ↦
+      let s = played-steps n b (onward b x) in
+      rw z (record { steps = taskNext b x ∷ s .steps; all = (eqb-true _ _ z, s .all); leads = taken-first b x (taskNext b x) (s .steps) z ∙ s .leads })
+]
+
 -- the step of the next task is the play's own
 record StepTaken (b : List ℕ) (x : Play) (t next : ℕ) : Type 0 where
   pub number : stepOf (x .run) b (x .memory) t .answer .number ≡ 0
   pub run : movedOf (x .run) t next ≡ steppedBy b x t .run
+  pub goes : goesOn b x ≡ true
+  pub takes : takesStep b x t ≡ true
   pub same : onward b x ≡ steppedBy b x t
   pub playing : Playing b (steppedBy b x t)
 
-step-taken : (b : List ℕ) (x : Play) → Playing b x → (t : ℕ) (op : Op) (next : ℕ) → IsNext (x .run) b t op next → StepTaken b x t next
-unfolding onward onNext
-step-taken b x w t op next n =
-    let e = step-open b x w t op next n in
-    let s : onward b x ≡ steppedBy b x t = rw (n .first) in
-    record { number = rw e; run = rw (e, steppedBy); same = s; playing = rw s at (goes-onward b x w (n .goes) .playing) }
+step-taken : (b : List ℕ) (x : Play) → Playing b x → (t : ℕ) (op : Op) (next : ℕ) → IsNext (x .run) b t op next → agrees op (x .memory) ≡ true → StepTaken b x t next
+unfolding onward
+step-taken b x w t op next n a =
+    let e = step-agrees b x w t op next n a in
+    let s : onward b x ≡ steppedBy b x t = ap (steppedBy b x) (n .first) in
+    let g : goesOn b x ≡ true = rw (n .first, e) in
+    record { number = rw e; run = rw (e, steppedBy); goes = g; takes = rw e; same = s; playing = rw s at (goes-onward b x w g .playing) }
+
+-- a play whose next step gives 19 stays where it is
+step-stays : (b : List ℕ) (x : Play) → Playing b x → (t : ℕ) (op : Op) (next : ℕ) → IsNext (x .run) b t op next → agrees op (x .memory) ≡ false
+    → (takesStep b x t ≡ false) × (goesOn b x ≡ false)
+step-stays b x w t op next n a = let e = step-differs b x w t op next n a in (rw e, rw (n .first, e))
 
 finishes : (n : ℕ) (b : List ℕ) (x : Play) → Playing b x → playedBy b x (scheduleFrom n b (x .run)) ≡ playedOf n b x
 unfolding scheduleFrom playedBy playedOf
 finishes zero b x w = refl
 finishes (suc n) b x w = elim (standing (x .run) b (w .sound)) [
-  | stops z ↦ rw (eq-eqb (readyOf (x .run) b .word) 0 z)
-  | goes-on t op next k ↦
-      let s = step-taken b x w t op next k in
-      rw (schedule-goes n b (x .run) t op next k, ne-eqb (readyOf (x .run) b .word) 0 (k .goes), s .same, s .run) (finishes n b (steppedBy b x t) (s .playing))
-]
-
-takes : (n : ℕ) (b : List ℕ) (x : Play) → Playing b x → AllTaken b x (scheduleFrom n b (x .run))
-unfolding scheduleFrom AllTaken
-takes zero b x w = tt
-takes (suc n) b x w = elim (standing (x .run) b (w .sound)) [
-  | stops z ↦ rw (eq-eqb (readyOf (x .run) b .word) 0 z) tt
-  | goes-on t op next k ↦
-      let s = step-taken b x w t op next k in
-      rw (schedule-goes n b (x .run) t op next k, s .run) (s .number, takes n b (steppedBy b x t) (s .playing))
+  | stops z ↦ rw (eq-eqb (readyOf (x .run) b .word) 0 z, none-stops b x w z)
+  | goes-on t op next k ↦ elim (split (agrees op (x .memory))) [
+    | passes a ↦
+        let s = step-taken b x w t op next k a in
+        rw (schedule-goes n b (x .run) t op next k, s .takes, s .goes, s .same, s .run) (finishes n b (steppedBy b x t) (s .playing))
+    | fails a ↦ let s = step-stays b x w t op next k a in rw (schedule-goes n b (x .run) t op next k, s .0, s .1)
+  ]
 ]
 
 -- an access that may be done, in a run without a memory
@@ -114,26 +139,43 @@ pub ran-one : (b : List ℕ) (r : Run) (t : ℕ) (op : Op) (next : ℕ) (ts : Li
 unfolding ranBy
 ran-one b r t op next ts o = ap (λ (q : Run). ranBy b q ts) (behind-open b r t op next o)
 
--- the play's run is the run without a memory
-ran-same : (n : ℕ) (b : List ℕ) (x : Play) → Playing b x → playedBy b x (scheduleFrom n b (x .run)) .run ≡ ranBy b (x .run) (scheduleFrom n b (x .run))
-unfolding scheduleFrom playedBy ranBy
-ran-same zero b x w = refl
-ran-same (suc n) b x w = elim (standing (x .run) b (w .sound)) [
-  | stops z ↦ rw (eq-eqb (readyOf (x .run) b .word) 0 z)
-  | goes-on t op next k ↦
-      let s = step-taken b x w t op next k in
-      rw (schedule-goes n b (x .run) t op next k, ran-one b (x .run) t op next (scheduleFrom n b (movedOf (x .run) t next)) (k .opens), s .run) (ran-same n b (steppedBy b x t) (s .playing))
+-- taken steps lead where the run without a memory goes
+pub taken-ran : (b : List ℕ) (x : Play) (steps : List ℕ) → Playing b x → AllTaken b x steps → playedBy b x steps .run ≡ ranBy b (x .run) steps
+unfolding playedBy ranBy AllTaken
+taken-ran b x [] w a = refl
+taken-ran b x (t ∷ steps) w a = elim (step-goes (x .run) b (x .memory) t (w .sound) (w .entries)) [
+  | taken op next g ↦
+      let k = step-keeps (x .run) b (x .memory) t (w .sound) (w .shaped) (w .entries) in
+      let p : Playing b (steppedBy b x t) = record { sound = k .sound; shaped = k .shaped; entries = k .entries ∙ w .entries ∙ sym (k .objects) } in
+      rw (eq-eqb _ 0 (a .0)) (taken-ran b (steppedBy b x t) steps p (a .1) ∙ ap (λ (q : Run). ranBy b q steps) (g .run ∙ sym (behind-open b (x .run) t op next (g .opens))))
+  | turned u f g ↦ absurd (g .number (a .0))
+  | differing op next d g ↦ absurd (g .number (a .0))
+]
+
+-- if at the end no task is ready, every step of the order was taken
+takes : (n : ℕ) (b : List ℕ) (x : Play) → Playing b x → wordAt b (playedOf n b x) ≡ 0 → AllTaken b x (scheduleFrom n b (x .run))
+unfolding scheduleFrom playedOf AllTaken
+takes zero b x w e = tt
+takes (suc n) b x w e = elim (standing (x .run) b (w .sound)) [
+  | stops z ↦ rw (eq-eqb (readyOf (x .run) b .word) 0 z) tt
+  | goes-on t op next k ↦ elim (split (agrees op (x .memory))) [
+    | passes a ↦
+        let s = step-taken b x w t op next k a in
+        rw (schedule-goes n b (x .run) t op next k, s .run) (s .number, takes n b (steppedBy b x t) (s .playing) (rw (s .goes, s .same) at e))
+    | fails a ↦ absurd (k .goes (rw (step-stays b x w t op next k a .1) at e))
+  ]
 ]
 
 module _ (b : List ℕ) (x : Play) (w : Playing b x) where
-  pub schedule-settled : playedBy b x (scheduleOf b (x .run)) .run ≡ settledOf b (x .run)
-  schedule-settled = ran-same (leftOver (x .run)) b x w
-
   pub schedule-finish : playedBy b x (scheduleOf b (x .run)) ≡ finishOf b x
   schedule-finish = finishes (leftOver (x .run)) b x w
 
-  pub schedule-taken : AllTaken b x (scheduleOf b (x .run))
-  schedule-taken = takes (leftOver (x .run)) b x w
+  pub finish-steps : StepsTo b x (finishOf b x)
+  finish-steps = played-steps (leftOver (x .run)) b x
 
-  pub schedule-ends : readyOf (playedBy b x (scheduleOf b (x .run)) .run) b .word ≡ 0
-  schedule-ends = rw schedule-finish (finish-ends b x w)
+  pub schedule-taken : wordAt b (finishOf b x) ≡ 0 → AllTaken b x (scheduleOf b (x .run))
+  schedule-taken z = takes (leftOver (x .run)) b x w z
+
+  -- if every step is taken, the play ends where the run without a memory does
+  pub schedule-settled : AllTaken b x (scheduleOf b (x .run)) → playedBy b x (scheduleOf b (x .run)) .run ≡ settledOf b (x .run)
+  schedule-settled a = taken-ran b x (scheduleOf b (x .run)) w a
