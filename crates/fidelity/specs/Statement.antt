@@ -2,11 +2,12 @@
 -- accepted opening, and any steps from an accepted replay opening of their recording. No proof is in this file.
 use mathlib.Core.Bool.{true, false}
 use mathlib.Core.List.{List}
-use mathlib.Core.Logic.{_↔_}
+use mathlib.Core.Logic.{_↔_, _⊎_}
 use mathlib.Core.Path.{_≡_}
 use Prim.Native.Nat.{ℕ, suc, _≤_, _<_}
 use lib.ListN.{length, getD}
 use Rattle.codec.specs.Kind.{reads as readsKind, writes as writesKind}
+use Rattle.codec.specs.Number.{noTask, finished, held}
 use Rattle.reader.specs.Calls.{checkedOf}
 use Rattle.reader.specs.Parse.{Parsed, parse}
 use Rattle.entries.specs.Reading.{read as reads, stop}
@@ -35,6 +36,10 @@ abbrev pub Shows : Stepped → Act → Type 0
 Shows a (read object value) = (readsKind (a .kind) ≡ true) × (a .object ≡ object) × (a .value ≡ value)
 Shows a (write object value) = (writesKind (a .kind) ≡ true) × (a .object ≡ object) × (a .value ≡ value)
 Shows a (acquire number) = ⊥
+
+-- why a step is not taken: no such task, no accesses left, held up by an ordering
+abbrev pub RefusedBy : ℕ → Type 0
+RefusedBy number = (number ≡ noTask) ⊎ (number ≡ finished) ⊎ (number ≡ held)
 
 module _ (o : Opening) (asked : List Asked) (outs : ℕ → List ℕ) (memory : List ℕ) where
   -- the recorded accesses, newest first, and the recording
@@ -68,9 +73,11 @@ module _ (o : Opening) (asked : List Asked) (outs : ℕ → List ℕ) (memory : 
     pub reader-takes : checkedOf (parse bytes) ≡ stop 0 0
     pub reads-back : (p : Parsed) × (parse bytes ≡ reads p) × (p .recording ≡ recordingBy o asked)
     -- 3. A step is taken exactly when its task is ready: it has accesses left, and every ordering before its next one is met. A step that
-    -- is not taken leaves the run and the memory as they were.
+    -- is not taken leaves the run and the memory as they were, and gives 5, 15 or 16 and nothing else: the memory agrees with every read's
+    -- record, in any allowed order (document 02, F-3).
     pub taken-when-ready : (steps : List ℕ) (t : ℕ) → (takes bytes (after steps) t ≡ true) ↔ Ready history (done steps) t
     pub refused-changes-nothing : (steps : List ℕ) (t : ℕ) → takes bytes (after steps) t ≡ false → StaysAt steps t
+    pub refused-by : (steps : List ℕ) (t : ℕ) → takes bytes (after steps) t ≡ false → RefusedBy (answerOf bytes (after steps) t .number)
     -- 4. A task's k-th taken step answers number k and the sort, object and value of its accepted access k.
     pub answers-recorded : (steps : List ℕ) (t : ℕ) → takes bytes (after steps) t ≡ true
         → (e : Entry) × Access history t (suc (done steps t)) e

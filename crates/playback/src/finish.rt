@@ -36,7 +36,7 @@ pub struct Played {
     pub stopped: Checked,
 }
 
-fn played(
+fn result_of(
     tasks: usize,
     objects: usize,
     steps: usize,
@@ -85,11 +85,11 @@ pub(crate) fn finish(run: Run, bytes: &[u8], memory: &mut [u32]) -> Played
         );
         let NextStep::Ready { task, op } = n else {
             let done = all_done(run.tasks, &dones, &counts);
-            return played(run.tasks, run.objects, steps, done, 0, 0);
+            return result_of(run.tasks, run.objects, steps, done, 0, 0);
         };
         if !agrees(op, memory) {
             let at = record_at(op, places[task]);
-            return played(run.tasks, run.objects, steps, false, DIFFERS, at);
+            return result_of(run.tasks, run.objects, steps, false, DIFFERS, at);
         }
         perform(op, memory);
         steps += 1;

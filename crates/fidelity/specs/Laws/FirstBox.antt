@@ -1,7 +1,7 @@
 -- An accepted opening: facts about its arguments and its result, and what therefore holds after any calls.
-use mathlib.Core.List.{List, [], _∷_}
+use mathlib.Core.List.{List, []}
 use mathlib.Core.Path.{_≡_, refl}
-use Prim.Native.Nat.{ℕ, zero, suc, _<_}
+use Prim.Native.Nat.{ℕ}
 use native.Mathlib.Omega.{arith}
 use borrow.Author.Tests.{eqb-true}
 use lib.Dec.{eqb}
@@ -20,6 +20,7 @@ use Rattle.opening.specs.OpenOf.{openNumber, opened, openOf}
 use Rattle.opening.specs.Laws.OpenCode.{OpenFacts, open-facts, open-accepted}
 use Rattle.fidelity.specs.Box.{Opening, openedBy, Asked, firstBox, lastBox, recorded}
 use Rattle.fidelity.specs.Filed.{filedOf}
+use Rattle.reader.specs.Laws.Range.{under-at}
 use Rattle.reader.specs.Laws.Strict.{below-under}
 use Rattle.fidelity.specs.Laws.Follows.{Follows, follows-all}
 

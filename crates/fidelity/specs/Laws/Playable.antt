@@ -14,7 +14,6 @@ use Rattle.replayer.specs.Laws.OpenOf.{open-accepts}
 use Rattle.replayer.specs.OpenOf.{openedRun}
 use Rattle.replayer.specs.ReadyOf.{hasLeft}
 use Rattle.scheduler.specs.Finish.{isDone, tasksIn, finishedOf}
-use Rattle.scheduler.specs.Laws.Schedule.{schedule-settled}
 use Rattle.scheduler.specs.Laws.Settled.{settled-along}
 use Rattle.scheduler.specs.Schedule.{scheduleOf, settledOf}
 use Rattle.playability.specs.Laws.Counted.{plays-length}
@@ -22,7 +21,7 @@ use Rattle.playability.specs.Laws.Theorem.{free-plays, playable-answers}
 use Rattle.playability.specs.Order.{Plays}
 use Rattle.fidelity.specs.Box.{Opening, Asked, recorded, recordingOf}
 use Rattle.fidelity.specs.Laws.BoxMatches.{parsedBy, owner-each, recording-parsed}
-use Rattle.fidelity.specs.Laws.LowestFirst.{box-playing, box-steps, box-finished}
+use Rattle.fidelity.specs.Laws.LowestFirst.{box-settled, box-steps, box-finished}
 use Rattle.fidelity.specs.Playable.{Packed, BoxPlays}
 use Rattle.fidelity.specs.Statement.{Accepted}
 
@@ -51,7 +50,7 @@ module _ (o : Opening) (asked : List Asked) (outs : ℕ → List ℕ) (w : Packe
   finished : finishedOf (settledOf bytes (openedRun (parsedBy o asked))) ≡ true
   finished =
       let e = recording-parsed o (w .opened) asked outs (w .packed) in
-      rw (← schedule-settled bytes _ (box-playing o asked outs lent accepted lent-each (parsedBy o asked) e refl))
+      rw (← box-settled o asked outs lent accepted lent-each (parsedBy o asked) e refl)
       (box-finished o asked outs lent accepted lent-each (parsedBy o asked) e refl)
 
   pub box-none-left : (t : ℕ) → t < settledOf bytes (openedRun (parsedBy o asked)) .tasks → hasLeft (settledOf bytes (openedRun (parsedBy o asked))) t ≡ false

@@ -37,7 +37,7 @@ use Rattle.fidelity.specs.Laws.Sim.{Sim, sim-ready}
 use Rattle.fidelity.specs.Laws.SimStep.{Alike, sim-step}
 use Rattle.fidelity.specs.Laws.SimRun.{sim-run, tally-same, tally-of-same, all-taken-same}
 use Rattle.fidelity.specs.Laws.SimStart.{holds, sim-start}
-use Rattle.fidelity.specs.Statement.{Shows}
+use Rattle.fidelity.specs.Statement.{Shows, RefusedBy}
 
 act-of : {r s : Reply} → some r ≡ some s → r .act ≡ s .act
 act-of q = cc
@@ -64,22 +64,25 @@ module _ (start : ℕ → ℕ) (h : History) (bytes : List ℕ) (p : Parsed) (m 
   ideal : Faithful start h
   ideal = faithful (m .sound)
 
-  sim : (steps : List ℕ) → Sim h bytes tasks objects (after start h steps) (steppedAll bytes first steps)
-  sim steps = sim-run h bytes tasks objects (holds start h bytes p m) (fresh start) first (sim-start start h bytes p m memory z) steps
+  sim : (steps : List ℕ) → Sim start h bytes tasks objects (after start h steps) (steppedAll bytes first steps)
+  sim steps = sim-run start h bytes tasks objects (holds start h bytes p m) (fresh start) first (sim-start start h bytes p m memory z) steps
 
-  alike : (steps : List ℕ) (t : ℕ) → Alike h bytes tasks objects (after start h steps) (steppedAll bytes first steps) t
-  alike steps t = sim-step h bytes tasks objects (holds start h bytes p m) (after start h steps) (steppedAll bytes first steps) (sim steps) t
+  alike : (steps : List ℕ) (t : ℕ) → Alike start h bytes tasks objects (after start h steps) (steppedAll bytes first steps) t
+  alike steps t = sim-step start h bytes tasks objects (holds start h bytes p m) (after start h steps) (steppedAll bytes first steps) (sim steps) t
 
   -- the accesses done on the bench are those done in the history's replay
   done-same : (steps : List ℕ) → (λ t. tallyOfBy t bytes first steps) ≡ after start h steps .done
-  done-same steps = fun-ext (λ t. tally-of-same h bytes tasks objects (holds start h bytes p m) t (fresh start) first (sim-start start h bytes p m memory z) steps
+  done-same steps = fun-ext (λ t. tally-of-same start h bytes tasks objects (holds start h bytes p m) t (fresh start) first (sim-start start h bytes p m memory z) steps
       ∙ sym (ideal .done-is-tally steps t))
 
   counts-same : (steps : List ℕ) → tallyBy bytes first steps ≡ tally h (fresh start) steps
-  counts-same steps = tally-same h bytes tasks objects (holds start h bytes p m) (fresh start) first (sim-start start h bytes p m memory z) steps
+  counts-same steps = tally-same start h bytes tasks objects (holds start h bytes p m) (fresh start) first (sim-start start h bytes p m memory z) steps
 
   pub taken-when-ready : (steps : List ℕ) (t : ℕ) → (takesBy bytes (steppedAll bytes first steps) t ≡ true) ↔ Ready h (λ u. tallyOfBy u bytes first steps) t
   taken-when-ready steps t = rw (done-same steps, alike steps t .same) (ideal .taken-when-ready steps t)
+
+  pub refused-by : (steps : List ℕ) (t : ℕ) → takesBy bytes (steppedAll bytes first steps) t ≡ false → RefusedBy (answerOf bytes (steppedAll bytes first steps) t .number)
+  refused-by steps t = alike steps t .barred
 
   pub answers-recorded : (steps : List ℕ) (t : ℕ) → takesBy bytes (steppedAll bytes first steps) t ≡ true
       → (e : Entry) × Access h t (suc (tallyOfBy t bytes first steps)) e
@@ -110,7 +113,7 @@ module _ (start : ℕ → ℕ) (h : History) (bytes : List ℕ) (p : Parsed) (m 
 
   pub word-ready : (steps : List ℕ) (t : ℕ) → (hasBit (readyOf (steppedAll bytes first steps .run) bytes .word) t ≡ true) ↔ Ready h (λ u. tallyOfBy u bytes first steps) t
   word-ready steps t = rw (done-same steps) (elim (decLt t tasks) [
-    | yes l ↦ rw (word steps .bit t (omega (arith, sim steps .tasks-same)), sim-ready h bytes tasks objects (after start h steps) (steppedAll bytes first steps) (sim steps) t l)
+    | yes l ↦ rw (word steps .bit t (omega (arith, sim steps .tasks-same)), sim-ready start h bytes tasks objects (after start h steps) (steppedAll bytes first steps) (sim steps) t l)
         (ideal .test-tells-ready steps t)
     | no l ↦ (
       λ q. absurd (never (hasBit (readyOf (steppedAll bytes first steps .run) bytes .word) t) q (word steps .above t (omega (arith, sim steps .tasks-same)))),
@@ -128,7 +131,7 @@ module _ (start : ℕ → ℕ) (h : History) (bytes : List ℕ) (p : Parsed) (m 
       each t l = elim (split (isReadyBy (steppedAll bytes first steps .run) bytes t)) [
         | fails q ↦ q
         | passes q ↦ absurd (idle t (ideal .test-tells-ready steps t .0
-            (sym (sim-ready h bytes tasks objects (after start h steps) (steppedAll bytes first steps) (sim steps) t (omega (arith, sim steps .tasks-same))) ∙ q)))
+            (sym (sim-ready start h bytes tasks objects (after start h steps) (steppedAll bytes first steps) (sim steps) t (omega (arith, sim steps .tasks-same))) ∙ q)))
       ]
 
   pub stops-at-end : (steps : List ℕ) → (readyOf (steppedAll bytes first steps .run) bytes .word ≡ 0) ↔ (tallyBy bytes first steps ≡ length h)
@@ -159,4 +162,4 @@ module _ (start : ℕ → ℕ) (h : History) (bytes : List ℕ) (p : Parsed) (m 
   memory-entries steps = sim steps .entries
 
   pub recorded-order : AllTakenBy bytes first (recordedOrder h)
-  recorded-order = all-taken-same h bytes tasks objects (holds start h bytes p m) (fresh start) first (sim-start start h bytes p m memory z) (recordedOrder h) (ideal .recorded-order)
+  recorded-order = all-taken-same start h bytes tasks objects (holds start h bytes p m) (fresh start) first (sim-start start h bytes p m memory z) (recordedOrder h) (ideal .recorded-order)

@@ -71,7 +71,7 @@ module _ (start : ℕ → ℕ) (h : History) (bytes : List ℕ) (tasks objects :
   sim-reads q c r = go (next t (s .done t) h) refl
     where
       go : (o : Option Entry) → next t (s .done t) h ≡ o → ⊥
-      go none p = omega (arith, next-none t (s .done t) h p, i .done t, i .counts t low, ltb-true _ _ q)
+      go none p = omega (arith, next-none t (s .done t) h p, i .done t, i .counts t low, ltb-true (taskAt (b .run .runs) t .done) (taskAt (b .run .runs) t .count) q)
       go (some e) p =
           let w : Left (b .run) bytes t (filed e ∷ leftOf t (suc (s .done t)) h) = rw (left-next t (s .done t) h e p) at (i .left t low) in
           judged-reads (b .run .runs) (taskAt (b .run .runs) t .place) (entryNext (b .run) bytes t) (filed e) (left-entry (b .run) bytes t (filed e) _ w) c r

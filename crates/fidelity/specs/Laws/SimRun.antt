@@ -8,29 +8,29 @@ use Rattle.fidelity.specs.Bench.{Bench, stepped, steppedAll, tally as ta
 use Rattle.fidelity.specs.Laws.Sim.{Sim}
 use Rattle.fidelity.specs.Laws.SimStep.{Holds, sim-step}
 
-module _ (h : History) (bytes : List ℕ) (tasks objects : ℕ) (holds : Holds h tasks) where
-  pub sim-run : (s : State) (b : Bench) → Sim h bytes tasks objects s b → (steps : List ℕ) → Sim h bytes tasks objects (run h s steps) (steppedAll bytes b steps)
+module _ (start : ℕ → ℕ) (h : History) (bytes : List ℕ) (tasks objects : ℕ) (holds : Holds start h tasks) where
+  pub sim-run : (s : State) (b : Bench) → Sim start h bytes tasks objects s b → (steps : List ℕ) → Sim start h bytes tasks objects (run h s steps) (steppedAll bytes b steps)
   unfolding run steppedAll
   sim-run s b i [] = i
-  sim-run s b i (t ∷ steps) = sim-run (step h s t) (stepped bytes b t) (sim-step h bytes tasks objects holds s b i t .sim) steps
+  sim-run s b i (t ∷ steps) = sim-run (step h s t) (stepped bytes b t) (sim-step start h bytes tasks objects holds s b i t .sim) steps
 
-  pub tally-same : (s : State) (b : Bench) → Sim h bytes tasks objects s b → (steps : List ℕ) → tallyBy bytes b steps ≡ tally h s steps
+  pub tally-same : (s : State) (b : Bench) → Sim start h bytes tasks objects s b → (steps : List ℕ) → tallyBy bytes b steps ≡ tally h s steps
   unfolding tally tallyBy
   tally-same s b i [] = refl
   tally-same s b i (t ∷ steps) =
-      let a = sim-step h bytes tasks objects holds s b i t in
+      let a = sim-step start h bytes tasks objects holds s b i t in
       rw (a .same, tally-same (step h s t) (stepped bytes b t) (a .sim) steps)
 
-  pub tally-of-same : (u : ℕ) (s : State) (b : Bench) → Sim h bytes tasks objects s b → (steps : List ℕ) → tallyOfBy u bytes b steps ≡ tallyOf u h s steps
+  pub tally-of-same : (u : ℕ) (s : State) (b : Bench) → Sim start h bytes tasks objects s b → (steps : List ℕ) → tallyOfBy u bytes b steps ≡ tallyOf u h s steps
   unfolding tallyOf tallyOfBy
   tally-of-same u s b i [] = refl
   tally-of-same u s b i (t ∷ steps) =
-      let a = sim-step h bytes tasks objects holds s b i t in
+      let a = sim-step start h bytes tasks objects holds s b i t in
       rw (a .same, tally-of-same u (step h s t) (stepped bytes b t) (a .sim) steps)
 
-  pub all-taken-same : (s : State) (b : Bench) → Sim h bytes tasks objects s b → (steps : List ℕ) → AllTaken h s steps → AllTakenBy bytes b steps
+  pub all-taken-same : (s : State) (b : Bench) → Sim start h bytes tasks objects s b → (steps : List ℕ) → AllTaken h s steps → AllTakenBy bytes b steps
   unfolding AllTaken AllTakenBy
   all-taken-same s b i [] all = tt
   all-taken-same s b i (t ∷ steps) all =
-      let a = sim-step h bytes tasks objects holds s b i t in
+      let a = sim-step start h bytes tasks objects holds s b i t in
       (a .same ∙ all .0, all-taken-same (step h s t) (stepped bytes b t) (a .sim) steps (all .1))

@@ -6,6 +6,7 @@ use lib.ListN.{length}
 use Rattle.reader.specs.Parse.{Parsed}
 use Rattle.entries.specs.Reading.{read}
 use Rattle.history.specs.History.{History}
+use Rattle.history.specs.Laws.Run.{kept-fresh}
 use Rattle.history.specs.Replay.{fresh}
 use Rattle.replayer.specs.Laws.Left.{left-opened}
 use Rattle.replayer.specs.Laws.OpenOf.{AtStart, opened-stands, Opens, open-accepts, open-accepted}
@@ -18,8 +19,8 @@ use Rattle.fidelity.specs.Laws.Sim.{Sim}
 use Rattle.fidelity.specs.Laws.SimStep.{Holds}
 
 module _ (start : ℕ → ℕ) (h : History) (bytes : List ℕ) (p : Parsed) (m : Matches start h bytes p) where
-  pub holds : Holds h (p .recording .tasks)
-  holds = record { low = λ a. m .tasks-low a; recordable = λ a. m .recordable a }
+  pub holds : Holds start h (p .recording .tasks)
+  holds = record { sound = m .sound; low = λ a. m .tasks-low a; recordable = λ a. m .recordable a }
 
   module _ (memory : List ℕ) (z : openOf bytes memory .answer .number ≡ 0) where
     entries : length memory ≡ length (p .recording .owners)
@@ -32,10 +33,11 @@ module _ (start : ℕ → ℕ) (h : History) (bytes : List ℕ) (p : Parsed) (m 
     pub opened-is : benchOf bytes memory ≡ record { run = openedRun p; memory = p .recording .values }
     opened-is = rw (open-accepts bytes memory p (m .reads) entries)
 
-    pub sim-start : Sim h bytes (p .recording .tasks) (length (p .recording .owners)) (fresh start) (benchOf bytes memory)
+    pub sim-start : Sim start h bytes (p .recording .tasks) (length (p .recording .owners)) (fresh start) (benchOf bytes memory)
     sim-start =
         let a : AtStart bytes p = opened-stands bytes p (m .reads) in
         rw opened-is (record {
+          kept = kept-fresh start h;
           sound = a .sound;
           shaped = a .shaped;
           tasks-same = refl;

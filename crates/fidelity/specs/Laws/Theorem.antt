@@ -15,7 +15,7 @@ use Rattle.fidelity.specs.Laws.BoxMatches.{parsedBy, owner-each, box-mem
 use Rattle.fidelity.specs.Laws.BoxReference.{answers-reference, memory-reference}
 use Rattle.fidelity.specs.Laws.FirstBox.{startOf}
 use Rattle.fidelity.specs.Laws.Matches.{Matches}
-use Rattle.fidelity.specs.Laws.Replayed.{taken-when-ready, refused-changes-nothing, answers-recorded, word-sound, word-ready, memory-of-writes, never-more, stops-at-end, end-memory, end-finished, memory-entries, recorded-order}
+use Rattle.fidelity.specs.Laws.Replayed.{taken-when-ready, refused-changes-nothing, refused-by, answers-recorded, word-sound, word-ready, memory-of-writes, never-more, stops-at-end, end-memory, end-finished, memory-entries, recorded-order}
 use Rattle.fidelity.specs.Statement.{Accepted, after, Faithful}
 
 module _ (o : Opening) (asked : List Asked) (outs : ℕ → List ℕ) (memory : List ℕ) (a : Accepted o asked outs memory) where
@@ -48,6 +48,7 @@ module _ (o : Opening) (asked : List Asked) (outs : ℕ → List ℕ) (memory : 
     reads-back = (parsedBy o asked, recording-parsed o (a .opened) asked outs (a .packed), refl);
     taken-when-ready = taken-when-ready (startOf o) (recorded o asked) (recordingOf o asked outs) (parsedBy o asked) matches memory (a .replayed);
     refused-changes-nothing = λ steps t. refused-changes-nothing (recordingOf o asked outs) (after o asked outs memory steps) t;
+    refused-by = refused-by (startOf o) (recorded o asked) (recordingOf o asked outs) (parsedBy o asked) matches memory (a .replayed);
     answers-recorded = answers-recorded (startOf o) (recorded o asked) (recordingOf o asked outs) (parsedBy o asked) matches memory (a .replayed);
     word-sound = word-sound (startOf o) (recorded o asked) (recordingOf o asked outs) (parsedBy o asked) matches memory (a .replayed);
     word-ready = word-ready (startOf o) (recorded o asked) (recordingOf o asked outs) (parsedBy o asked) matches memory (a .replayed);

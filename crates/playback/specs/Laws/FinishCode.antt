@@ -9,6 +9,7 @@ use Rattle.codec.specs.declared.Op.{Op}
 use Rattle.codec.specs.Laws.Decide.{passes, fails, split, never}
 use Rattle.codec.specs.Limit.{maxTasks}
 use Rattle.codec.specs.Number.{differs}
+use Rattle.entries.specs.declared.Checked.{Checked}
 use Rattle.entries.specs.Reading.{stop}
 use Rattle.pending.specs.Laws.All.{all-facts}
 use Rattle.pending.specs.declared.Run.{Run}
@@ -37,6 +38,11 @@ left-unfinished r t h k l = elim (split (finishedOf r)) [
   | passes p ↦ absurd (never (not (hasLeft r t)) (all-facts (isDone r) (tasksIn (r .tasks)) p t (omega arith)) (rw l))
 ]
 
+-- the answer about a play that has ended
+shown-so : (b : List ℕ) (x y : Play) (f : Bool) (c : Checked) → x ≡ y → f ≡ finishedOf (x .run) → c ≡ stoppedOf b x
+    → (record { tasks = x .run .tasks; objects = x .run .objects; steps = x .steps; finished = f; stopped = c } ≡ shownPlay b y) × (x .memory ≡ y .memory)
+shown-so b x y f c q e s = (rw (e, s) (ap (shownPlay b) q), ap (λ (z : Play). z .memory) q)
+
 module _ (b : List ℕ) (start x : Play) (g : Going b start x) where
   module _ (t : ℕ) (op : Op) (next : ℕ) (n : IsNext (x .run) b t op next) where
     pub going-on : agrees op (x .memory) ≡ true → (r : Run) (m : List ℕ) → r ≡ movedOf (x .run) t next → m ≡ performed op (x .memory)
@@ -56,14 +62,12 @@ module _ (b : List ℕ) (start x : Play) (g : Going b start x) where
     going-stopped a at e =
         let d = step-differs b x (g .playing) t op next n a in
         let q : x ≡ finishOf b start = sym (finish-end b x (rw (n .first, d))) ∙ g .same in
-        let f : finishedOf (x .run) ≡ false = left-unfinished (x .run) t (n .below) (n .few) (n .left) in
-        let s : stoppedOf b x ≡ stop differs at = rw (ne-eqb (readyOf (x .run) b .word) 0 (n .goes), n .first, d, e) in
-        (rw (← s, ← f) (ap (shownPlay b) q), ap (λ (y : Play). y .memory) q)
+        shown-so b x (finishOf b start) false (stop differs at) q (sym (left-unfinished (x .run) t (n .below) (n .few) (n .left)))
+        (rw (ne-eqb (readyOf (x .run) b .word) 0 (n .goes), n .first, d, e))
 
   -- no task is ready: the answer
   pub going-end : readyOf (x .run) b .word ≡ 0 → (f : Bool) → f ≡ finishedOf (x .run)
       → (record { tasks = x .run .tasks; objects = x .run .objects; steps = x .steps; finished = f; stopped = stop 0 0 } ≡ shownPlay b (finishOf b start)) × (x .memory ≡ finishOf b start .memory)
   going-end z f e =
       let q : x ≡ finishOf b start = sym (finish-end b x (none-stops b x (g .playing) z)) ∙ g .same in
-      let s : stoppedOf b x ≡ stop 0 0 = rw (eq-eqb (readyOf (x .run) b .word) 0 z) in
-      (rw (e, ← s) (ap (shownPlay b) q), ap (λ (y : Play). y .memory) q)
+      shown-so b x (finishOf b start) f (stop 0 0) q e (rw (eq-eqb (readyOf (x .run) b .word) 0 z))

@@ -68,6 +68,10 @@ module _ (tasks objects : ℕ) (places ends dones counts : List ℕ) where
   pub columns-task : (t : ℕ) → t < maxTasks → taskAt (runOf tasks objects places ends dones counts .runs) t ≡ taskOf places ends dones counts t
   columns-task t h = each-at (taskOf places ends dones counts) maxTasks t blankTask h
 
+  -- where a task stands after its step
+  pub columns-place : (r : Run) (t next : ℕ) → Shaped r → t < maxTasks → runOf tasks objects places ends dones counts ≡ movedOf r t next → getD places t 0 ≡ next
+  columns-place r t next s h e = ap (λ (y : TaskRun). y .place) (sym (columns-task t h) ∙ ap (λ (q : Run). taskAt (q .runs) t) e ∙ moved-own r t next s h)
+
   module _ (d : length dones ≡ maxTasks) where
     columns-dones : donesOf (runOf tasks objects places ends dones counts .runs) ≡ dones
     columns-dones = each-of _ maxTasks dones 0 d (λ t h. ap (λ (y : TaskRun). y .done) (columns-task t h))

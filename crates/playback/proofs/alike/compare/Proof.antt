@@ -29,7 +29,7 @@ returns c =
     let x = c .before .before .before .before .before .before .before .before .before .before .play in
     let y = c .before .before .before .before .before .before .play2 in
     let s = c .before .same-entries in (
-      compares (playOf (now (a .first)) (now (a .first-memory))) (playOf (now (a .second)) (now (a .second-memory))) (x .result) (y .result) (x .last .1 .1 .0) (y .last .1 .1 .0) (s .result) (c .alike .result) (x .ensures .0) (y .ensures .0) (x .ensures .1) (y .ensures .1) (s .ensures) (c .alike .ensures),
+      compares (now (a .first)) (now (a .second)) (playOf (now (a .first)) (now (a .first-memory))) (playOf (now (a .second)) (now (a .second-memory))) (x .result) (y .result) (x .last .1 .1 .0) (y .last .1 .1 .0) (s .result) (c .alike .result) (x .ensures .0) (y .ensures .0) (x .ensures .1) (y .ensures .1) (s .ensures) (c .alike .ensures),
       (x .ensures .1, y .ensures .1),
     )
 

@@ -68,7 +68,7 @@ returns-5 c =
     let l = c .before .before .before .before .before .before .before .before .before .before .before .before .before .before .before .before .locate in
     let k = c .before .before .before .before .before .before .before .before .before .before .before .before .before .locate2 in
     let r = c .before .before .before .before .compare in
-    parts (both-ended (playOf (now (a .first)) (now (a .first-memory))) (playOf (now (a .second)) (now (a .second-memory))) (r .last .1 .1 .1 .1 .0) (r .last .1 .1 .1 .1 .1 .0) (r .result) (r .ensures .0) (r .ensures .1 .0) (r .ensures .1 .1)
+    parts (both-ended (now (a .first)) (now (a .second)) (playOf (now (a .first)) (now (a .first-memory))) (playOf (now (a .second)) (now (a .second-memory))) (r .last .1 .1 .1 .1 .0) (r .last .1 .1 .1 .1 .1 .0) (r .result) (r .ensures .0) (r .ensures .1 .0) (r .ensures .1 .1)
     ∙ both-play (now (a .first)) (now (a .second)) (now (a .first-memory)) (now (a .second-memory)) (l .result) (l .ensures) (k .result) (c .before .before .before .before .before .before .before .before .before .before .before .before .before .before .if1 .left) (k .ensures) (c .before .before .before .before .before .before .before .before .before .before .before .if2 .left) (c .before .before .before .before .before .before .before .before .before .if3 .left) (c .before .before .before .before .before .before .before .if4 .left))
 
 pub same-outcome-spec : {M : Type 1} → statement M

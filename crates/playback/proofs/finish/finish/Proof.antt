@@ -1,17 +1,19 @@
 use mathlib.Core.Path.{_≡_, refl, sym, ap, _∙_}
 use native.Mathlib.Omega.{arith}
 use Prim.Native.Nat.{_+_}
-use lib.ListN.{length}
+use lib.ListN.{length, getD}
 use denote.Ref.{now}
 use Rattle.pending.specs.declared.Run.{Run}
 use Rattle.scheduler.specs.Laws.Columns.{runOf}
-use Rattle.scheduler.specs.Laws.Columns.{columns-back, columns-finished}
+use Rattle.scheduler.specs.Laws.Columns.{columns-back, columns-shaped, columns-place, columns-finished}
 use Rattle.scheduler.specs.Laws.ColumnsCode.{Columned, columned-none}
 use Rattle.scheduler.specs.Finish.{Play, leftOver, finishedOf}
-use Rattle.playback.specs.Laws.FinishCode.{Going, going-start, going-on, going-end}
+use Rattle.pending.specs.Laws.Next.{next-long}
+use Rattle.playback.specs.Laws.FinishCode.{Going, going-start, going-on, going-stopped, going-end}
 use Rattle.scheduler.specs.Laws.Lowest.{SteppedTo, found-next, found-none}
 use Rattle.scheduler.proofs.Else.{not-ready}
 use borrow.Author.Needs.{needs}
+use borrow.Author.Tests.{not-true, not-false}
 use Rattle.playback.proofs.finish.finish.Statement.{statement}
 use Rattle.playback.proofs.finish.finish.Tie as tie
 
@@ -42,8 +44,18 @@ found c = let l = c .before .before .before .lowest .ensures in found-next _ _ (
 
 -- the play after its step
 on : (c : tie.After-perform Inv-loop μ-loop) →
-    Going (now (c .before .before .before .before .before .before .before .before .before .before .before .before .before .before .before .before .before .before .before .before .args .bytes)) (start (c .before .before .before .before .before .before .before .before .before .before .before .before .before .before .before .before .before .before .before .before)) (record { run = after (c .before .before .before .before .before); memory = c .perform .last .1 .0; steps = c .before .before .before .before .before .before .before .before .before .before .before .before .loop .steps + 1 })
-on c = let f = found (c .before .before) in going-on _ _ _ (c .before .before .before .before .before .before .before .before .before .before .before .before .loop .inv .2) _ _ _ (f .is) _ _ (f .run) (c .perform .ensures .1)
+    Going (now (c .before .before .before .before .before .before .before .before .before .before .before .before .before .before .before .before .before .before .before .before .before .before .before .args .bytes)) (start (c .before .before .before .before .before .before .before .before .before .before .before .before .before .before .before .before .before .before .before .before .before .before .before)) (record { run = after (c .before .before .before .before .before .before .before .before); memory = c .perform .last .1 .0; steps = c .before .before .before .before .before .before .before .before .before .before .before .before .before .before .before .loop .steps + 1 })
+on c = let f = found (c .before .before .before .before .before) in going-on _ _ _ (c .before .before .before .before .before .before .before .before .before .before .before .before .before .before .before .loop .inv .2) _ _ _ (f .is) (sym (c .before .before .before .agrees .ensures) ∙ not-false _ (c .before .before .if1 .left)) _ _ (f .run) (c .perform .ensures .1)
+
+-- where the next task stands then
+standing : (c : tie.After-known-told Inv-loop μ-loop) → let g = c .before .n .given .0 in getD (c .before .before .before .lowest .last .1 .1 .1 .0) (g .0) 0 ≡ found c .next
+standing c =
+    let r = c .before .before .before .before .before .before .before .before .before .before .before .before .before .before .before .before .before .before .args .run in
+    let k = c .before .before .before .before .before .before .before .before .before .before .before .before .before .before .before .columns-of .result in
+    let l = c .before .before .before .before .before .before .before .before .before .before .loop in
+    let w = c .before .before .before .lowest .last in
+    let f = found c in
+    columns-place (r .tasks) (r .objects) (w .1 .1 .1 .0) (k .ends) (w .1 .1 .1 .1 .1 .0) (k .counts) (here (c .before .before .before .before .before .before .before .before .before .before)) _ _ (columns-shaped (r .tasks) (r .objects) (l .places) (k .ends) (l .dones) (k .counts)) (f .is .few) (f .run)
 
 columns-of-requires : tie.Need-columns-of-requires Inv-loop μ-loop
 columns-of-requires c κs = search needs
@@ -67,30 +79,58 @@ enum-told c = search needs
 all-done-requires : tie.Need-all-done-requires Inv-loop μ-loop
 all-done-requires c κs = search needs
 
+result-of-requires : tie.Need-result-of-requires Inv-loop μ-loop
+result-of-requires c κs = search needs
+
 same-length : tie.Need-same-length Inv-loop μ-loop
-same-length c = c .before .before .before .before .before .before .before .before .before .before .before .before .loop .inv .1
+same-length c = c .before .before .before .before .before .before .before .before .before .before .before .before .before .loop .inv .1
 
 returns : tie.Need-returns Inv-loop μ-loop
 returns c =
-    let i = c .before .before .before .before .before .before .before .before .before .before .before .before .loop .inv in
-    let r = c .before .before .before .before .before .before .before .before .before .before .before .before .before .before .before .before .before .before .before .before .args .run in
-    let k = c .before .before .before .before .before .before .before .before .before .before .before .before .before .before .before .before .before .columns-of .result in
-    let l = c .before .before .before .before .before .lowest in
-    let n = found-none _ _ (i .0 .sound) _ (after (c .before .before .before .before .before)) (l .ensures .0) (l .ensures .1 .0) (not-ready _ (c .before .before .before .before .match .keys2)) in
+    let i = c .before .before .before .before .before .before .before .before .before .before .before .before .before .loop .inv in
+    let r = c .before .before .before .before .before .before .before .before .before .before .before .before .before .before .before .before .before .before .before .before .before .args .run in
+    let k = c .before .before .before .before .before .before .before .before .before .before .before .before .before .before .before .before .before .before .columns-of .result in
+    let l = c .before .before .before .before .before .before .lowest in
+    let n = found-none _ _ (i .0 .sound) _ (after (c .before .before .before .before .before .before)) (l .ensures .0) (l .ensures .1 .0) (not-ready _ (c .before .before .before .before .before .match .keys2)) in
     let e = columns-finished (r .tasks) (r .objects) (l .last .1 .1 .1 .0) (k .ends) (l .last .1 .1 .1 .1 .1 .0) (k .counts) in
-    going-end _ _ _ (i .2) (n .0) _ (c .all-done .ensures ∙ sym e ∙ ap finishedOf {x = after (c .before .before .before .before .before)} (n .1))
+    let g = going-end _ _ _ (i .2) (n .0) _ (c .before .all-done .ensures ∙ sym e ∙ ap finishedOf {x = after (c .before .before .before .before .before .before)} (n .1)) in
+    (c .result-of .ensures ∙ g .0, g .1)
+
+agrees-requires : tie.Need-agrees-requires Inv-loop μ-loop
+agrees-requires c κs = search needs
+
+mul-record-at : tie.Need-mul-record-at Inv-loop μ-loop
+mul-record-at c = omega (arith, found (c .before .before .before) .is .few)
+
+array-read-record-at : tie.Need-array-read-record-at Inv-loop μ-loop
+array-read-record-at c = found (c .before .before .before) .is .few
+
+record-at-requires : tie.Need-record-at-requires Inv-loop μ-loop
+record-at-requires c κs = rw (standing (c .before .before .before)) (next-long _ _ _ _ _ (found (c .before .before .before) .is .opens))
+
+result-of-requires-2 : tie.Need-result-of-requires-2 Inv-loop μ-loop
+result-of-requires-2 c κs = search needs
+
+same-length-2 : tie.Need-same-length-2 Inv-loop μ-loop
+same-length-2 c = c .before .before .before .before .before .before .before .before .before .before .before .before .before .before .before .loop .inv .1
+
+returns-2 : tie.Need-returns-2 Inv-loop μ-loop
+returns-2 c =
+    let f = found (c .before .before .before .before .before) in
+    let g = going-stopped _ _ _ (c .before .before .before .before .before .before .before .before .before .before .before .before .before .before .before .loop .inv .2) _ _ _ (f .is) (sym (c .before .before .before .agrees .ensures) ∙ not-true _ (c .before .before .if1 .taken)) _ (rw (standing (c .before .before .before .before .before)) at (c .before .record-at .ensures)) in
+    (c .result-of2 .ensures ∙ g .0, g .1)
 
 perform-requires : tie.Need-perform-requires Inv-loop μ-loop
 perform-requires c κs = search needs
 
 add-steps : tie.Need-add-steps Inv-loop μ-loop
-add-steps c = record { fits = omega (arith, on (c .before .before) .steps, c .before .before .before .before .before .before .before .before .before .before .before .before .before .before .before .before .before .before .before .before .before .before .pre .1) }
+add-steps c = record { fits = omega (arith, on (c .before .before) .steps, c .before .before .before .before .before .before .before .before .before .before .before .before .before .before .before .before .before .before .before .before .before .before .before .before .before .pre .1) }
 
 loop-less : tie.Need-loop-less Inv-loop μ-loop
-loop-less c = omega (arith, on (c .before .before) .steps, c .before .before .before .before .before .before .before .before .before .before .before .before .before .before .loop .inv .2 .steps)
+loop-less c = omega (arith, on (c .before .before) .steps, c .before .before .before .before .before .before .before .before .before .before .before .before .before .before .before .before .before .loop .inv .2 .steps)
 
 loop-again : tie.Need-loop-again Inv-loop μ-loop
-loop-again c = (c .before .before .before .before .before .before .before .lowest .ensures .1 .1, c .before .memory .given ∙ c .before .before .before .before .before .before .before .before .before .before .before .before .before .before .loop .inv .1, on (c .before .before))
+loop-again c = (c .before .before .before .before .before .before .before .before .before .before .lowest .ensures .1 .1, c .before .memory .given ∙ c .before .before .before .before .before .before .before .before .before .before .before .before .before .before .before .before .before .loop .inv .1, on (c .before .before))
 
 pub finish-spec : {M : Type 1} → statement M
 finish-spec =
@@ -104,8 +144,16 @@ finish-spec =
     enum-known-n
     enum-told
     all-done-requires
+    result-of-requires
     same-length
     returns
+    agrees-requires
+    mul-record-at
+    array-read-record-at
+    record-at-requires
+    result-of-requires-2
+    same-length-2
+    returns-2
     perform-requires
     add-steps
     loop-less

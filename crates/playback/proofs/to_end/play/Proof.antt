@@ -32,7 +32,7 @@ returns c =
     let g = c .before .before .before .before .before .before .begin in
     let f = c .before .before .finish .ensures in
     let e = same-play (now (a .bytes)) (now (a .memory)) (a .l) (playing (c .before .before .before .before .before .before .before)) (g .result) (g .last .1 .1 .0) (g .ensures .0) (g .ensures .1) in
-    (f .0 ∙ ap shownPlay e, f .1 ∙ ap (λ (x : Play). x .memory) e)
+    (f .0 ∙ ap (shownPlay (now (a .bytes))) e, f .1 ∙ ap (λ (x : Play). x .memory) e)
 
 pub play-spec : {M : Type 1} → statement M
 play-spec = tie.close (tie.spec begin-requires finish-requires same-length returns)

@@ -33,13 +33,13 @@ play-requires : tie.Need-play-requires
 play-requires c κs = (c .before .before .before .before .before .locate .ensures, c .before .before .before .if1 .left, c .before .if2 .left)
 
 same-length : tie.Need-same-length
-same-length c = c .before .before .play .kept .1 .1 .0
+same-length c = c .before .before .before .play .kept .1 .1 .0
 
 returns-3 : tie.Need-returns-3
-returns-3 c = let a = c .before .before .before .before .before .before .before .before .before .before .before .args in
-    let p = c .before .before .play in
-    parts (ends-so (playOf (now (a .bytes)) (now (a .memory))) (p .result) (p .last .1 .1 .0) (p .ensures .0) (p .ensures .1)
-    ∙ end-plays (now (a .bytes)) (now (a .memory)) (c .before .before .before .before .before .before .before .before .locate .result) (c .before .before .before .before .before .before .before .before .locate .ensures) (c .before .before .before .before .before .before .if1 .left) (c .before .before .before .before .if2 .left))
+returns-3 c = let a = c .before .before .before .before .before .before .before .before .before .before .before .before .args in
+    let p = c .before .before .before .play in
+    parts (ends-so (now (a .bytes)) (playOf (now (a .bytes)) (now (a .memory))) (p .result) (p .last .1 .1 .0) (p .ensures .0) (p .ensures .1)
+    ∙ end-plays (now (a .bytes)) (now (a .memory)) (c .before .before .before .before .before .before .before .before .before .locate .result) (c .before .before .before .before .before .before .before .before .before .locate .ensures) (c .before .before .before .before .before .before .before .if1 .left) (c .before .before .before .before .before .if2 .left))
 
 pub replay-to-end-spec : {M : Type 1} → statement M
 replay-to-end-spec =

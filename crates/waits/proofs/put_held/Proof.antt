@@ -1,0 +1,51 @@
+use borrow.Author.Needs.{needs}
+use Rattle.waits.proofs.put_held.Statement.{statement}
+use Rattle.waits.proofs.put_held.Tie as tie
+use Rattle.waits.proofs.put_held.Reads as reads
+use Rattle.waits.proofs.put_held.Lts as lts
+use Rattle.waits.proofs.put_part.Reads as put-part-reads
+
+slice-aggregate-put-part : tie.Need-slice-aggregate-put-part
+slice-aggregate-put-part c = search needs
+
+put-part-requires : tie.Need-put-part-requires
+put-part-requires c κs = search needs
+
+slice-aggregate-put-part-2 : tie.Need-slice-aggregate-put-part-2
+slice-aggregate-put-part-2 c = search needs
+
+put-part-requires-2 : tie.Need-put-part-requires-2
+put-part-requires-2 c κs = search needs
+
+slice-aggregate-put-part-3 : tie.Need-slice-aggregate-put-part-3
+slice-aggregate-put-part-3 c = search needs
+
+put-part-requires-3 : tie.Need-put-part-requires-3
+put-part-requires-3 c κs = search needs
+
+slice-aggregate-put-part-4 : tie.Need-slice-aggregate-put-part-4
+slice-aggregate-put-part-4 c = search needs
+
+put-part-requires-4 : tie.Need-put-part-requires-4
+put-part-requires-4 c κs = search needs
+
+same-length : tie.Need-same-length
+same-length c = search needs
+
+returns : tie.Need-returns
+returns c = ?
+
+pub put-held-spec : {M : Type 1} → statement M
+put-held-spec =
+    tie.close
+    (tie.spec
+    slice-aggregate-put-part
+    put-part-requires
+    slice-aggregate-put-part-2
+    put-part-requires-2
+    slice-aggregate-put-part-3
+    put-part-requires-3
+    slice-aggregate-put-part-4
+    put-part-requires-4
+    same-length
+    returns)
