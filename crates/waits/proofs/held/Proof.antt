@@ -1,8 +1,9 @@
+use mathlib.Core.Path.{sym}
+use lib.ListN.{List·getD-eq-default}
+use denote.Ref.{now}
 use borrow.Author.Needs.{needs}
 use Rattle.waits.proofs.held.Statement.{statement}
 use Rattle.waits.proofs.held.Tie as tie
-use Rattle.waits.proofs.held.Reads as reads
-use Rattle.waits.proofs.held.Lts as lts
 
 mul-result : tie.Need-mul-result
 mul-result c = search needs
@@ -14,7 +15,7 @@ returns : tie.Need-returns
 returns c = search needs
 
 returns-2 : tie.Need-returns-2
-returns-2 c = ?
+returns-2 c = sym (List·getD-eq-default (now (c .before .args .memory)) 0 (c .if1 .left))
 
 pub held-spec : {M : Type 1} → statement M
 held-spec = tie.close (tie.spec mul-result shared-slice-read-result returns returns-2)

@@ -1,12 +1,19 @@
+use mathlib.Core.Path.{_≡_}
+use lib.ListN.{drop}
+use denote.Ref.{now}
+use Rattle.codec.specs.Decode.{recordOf}
+use Rattle.codec.specs.Number.{inBody}
+use Rattle.text.specs.Laws.Appended.{nothing}
+use Rattle.waits.specs.Differ.{onDiffer}
+use Rattle.waits.specs.Laws.Differ.{record-there}
+use Rattle.waits.proofs.Else.{not-access}
 use borrow.Author.Needs.{needs}
 use Rattle.waits.proofs.put_differ.Statement.{statement}
 use Rattle.waits.proofs.put_differ.Tie as tie
-use Rattle.waits.proofs.put_differ.Reads as reads
-use Rattle.waits.proofs.put_differ.Lts as lts
-use Rattle.codec.proofs.limit.least.Reads as least-reads
-use Rattle.codec.proofs.read.record.Reads as record-reads
-use Rattle.waits.proofs.held.Reads as held-reads
-use Rattle.waits.proofs.put_held.Reads as put-held-reads
+
+-- the record that was read
+read-so : (c : tie.After-record) → let a = c .before .before .before .before .before .before .args in c .«record» .result ≡ recordOf inBody (drop (a .at) (now (a .bytes)))
+read-so c = let a = c .before .before .before .before .before .before .args in record-there (now (a .bytes)) (a .at) _ _ (c .before .before .least .ensures) (c .«record» .ensures)
 
 least-requires : tie.Need-least-requires
 least-requires c κs = search needs
@@ -27,7 +34,8 @@ enum-known-r : tie.Need-enum-known-r
 enum-known-r c = search needs
 
 returns : tie.Need-returns
-returns c = ?
+returns c = let a = c .before .before .before .before .before .before .before .args in
+    rw (← read-so (c .before), not-access (now (a .memory)) (a .at) (c .before .«record» .result) (c .match .keys2)) (nothing (now (a .out)) 0)
 
 cast-held : tie.Need-cast-held
 cast-held c = search needs
@@ -42,7 +50,8 @@ same-length : tie.Need-same-length
 same-length c = search needs
 
 returns-2 : tie.Need-returns-2
-returns-2 c = ?
+unfolding onDiffer
+returns-2 c = rw (← read-so (c .before .before .before .before .before .before .before .before), c .before .before .before .before .before .before .r .given .1, ← c .before .before .before .held .ensures) (c .before .before .put-held .ensures)
 
 pub put-differ-spec : {M : Type 1} → statement M
 put-differ-spec =

@@ -1,9 +1,8 @@
+use Rattle.text.specs.Laws.Appended.{joined}
+use Rattle.waits.specs.Differ.{differLine}
 use borrow.Author.Needs.{needs}
 use Rattle.waits.proofs.put_held.Statement.{statement}
 use Rattle.waits.proofs.put_held.Tie as tie
-use Rattle.waits.proofs.put_held.Reads as reads
-use Rattle.waits.proofs.put_held.Lts as lts
-use Rattle.waits.proofs.put_part.Reads as put-part-reads
 
 slice-aggregate-put-part : tie.Need-slice-aggregate-put-part
 slice-aggregate-put-part c = search needs
@@ -33,7 +32,8 @@ same-length : tie.Need-same-length
 same-length c = search needs
 
 returns : tie.Need-returns
-returns c = ?
+unfolding differLine
+returns c = joined (joined (joined (c .before .before .before .before .before .before .before .before .before .before .before .before .before .before .before .before .before .put-part .ensures .0) (c .before .before .before .before .before .before .before .before .before .before .before .before .put-part2 .ensures .0)) (c .before .before .before .before .before .before .before .put-part3 .ensures .0)) (c .before .before .put-part4 .ensures .0)
 
 pub put-held-spec : {M : Type 1} → statement M
 put-held-spec =
