@@ -3,6 +3,7 @@ pub mod Answered
 pub mod Objects
 pub mod Reasons
 pub mod ReasonsEach
+pub mod Stopped
 pub mod Text
 pub mod TextBound
 pub mod Told

@@ -96,7 +96,7 @@ played-steps (suc n) b x = elim (split (goesOn b x)) [
 ]
 
 -- the step of the next task is the play's own
-record StepTaken (b : List ℕ) (x : Play) (t next : ℕ) : Type 0 where
+pub record StepTaken (b : List ℕ) (x : Play) (t next : ℕ) : Type 0 where
   pub number : stepOf (x .run) b (x .memory) t .answer .number ≡ 0
   pub run : movedOf (x .run) t next ≡ steppedBy b x t .run
   pub goes : goesOn b x ≡ true
@@ -104,7 +104,7 @@ record StepTaken (b : List ℕ) (x : Play) (t next : ℕ) : Type 0 where
   pub same : onward b x ≡ steppedBy b x t
   pub playing : Playing b (steppedBy b x t)
 
-step-taken : (b : List ℕ) (x : Play) → Playing b x → (t : ℕ) (op : Op) (next : ℕ) → IsNext (x .run) b t op next → agrees op (x .memory) ≡ true → StepTaken b x t next
+pub step-taken : (b : List ℕ) (x : Play) → Playing b x → (t : ℕ) (op : Op) (next : ℕ) → IsNext (x .run) b t op next → agrees op (x .memory) ≡ true → StepTaken b x t next
 unfolding onward
 step-taken b x w t op next n a =
     let e = step-agrees b x w t op next n a in
