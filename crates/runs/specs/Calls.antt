@@ -31,17 +31,18 @@ abbrev box-a : Box
 box-a = calledAll (opened-box 2) run-a
 
 abbrev recording-a : List ℕ
-recording-a = opening 2 .out ++ packed (box-a .state) (box-a .logs) (λ t. replicate 44 0) 0 2
+recording-a = opening 2 .out ++ packed (box-a .state) (box-a .logs) (λ t. replicate 48 0) 0 2
 
 -- a write by row 1 with an output of n bytes
 abbrev row-one : ℕ → Box → ℕ
 row-one n b = outcome b (record { task = 0; object = 0; sort = 1; value = 7; out = replicate n 0 }) .answer .number
 
 pub record Calls : Type 0 where
-  -- run A: bodies of 24 and 32 bytes, a recording of 98 bytes, which the reader accepts; memory 9 and 0
-  pub a-body-0 : length (box-a .logs 0) ≡ 24
-  pub a-body-1 : length (box-a .logs 1) ≡ 32
-  pub a-recording : length recording-a ≡ 98
+  -- run A: bodies of 28 and 36 bytes, a recording of 106 bytes, which the reader accepts; memory 9 and 0. Document 01's sizes are those
+  -- with kind 4 (`Kinds`)
+  pub a-body-0 : length (box-a .logs 0) ≡ 28
+  pub a-body-1 : length (box-a .logs 1) ≡ 36
+  pub a-recording : length recording-a ≡ 106
   pub a-taken : checkedOf (parse recording-a) ≡ stop 0 0
   pub a-memory : box-a .memory ≡ 9 ∷ 0 ∷ []
   -- T = 0 and 17 give 1; 16 is accepted; N = 257 gives 2

@@ -14,7 +14,7 @@ abbrev bench : List ℕ → Bench
 bench steps = steppedAll bytes (benchOf bytes lent) steps
 
 pub record Whole : Type 0 where
-  pub size : lib.ListN.length bytes ≡ 98
+  pub size : lib.ListN.length bytes ≡ 106
   pub first-word : readyOf (bench [] .run) bytes .word ≡ 1
   pub second-word : readyOf (bench (0 ∷ []) .run) bytes .word ≡ 2
   -- task 1 is held up at the start, so its step changes nothing

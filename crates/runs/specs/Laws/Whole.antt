@@ -3,7 +3,7 @@ use mathlib.Core.Path.{refl}
 use Rattle.codec.specs.Decode.{recordOf, headOf, sectionOf as sectionOf-codec-decode, bodyOf as bodyOf-codec-decode}
 use Rattle.codec.specs.Encode.{ordering, opOf, access, start, startTwo, head, headObject, headObjects, section}
 use Rattle.codec.specs.Field.{le2, le4, field2, field4}
-use Rattle.codec.specs.Kind.{storesValue, writes}
+use Rattle.codec.specs.Kind.{reads, writes, storesValue, isValuedRead}
 use Rattle.codec.specs.Store.{store}
 use Rattle.entries.specs.Body.{walkOf, judged, tally, bodyEntries, bodyFrom}
 use Rattle.entries.specs.Bytes.{orderingsBytes, entryBytes, bodyBytes, sectionsBytes, bytesOf}
@@ -39,5 +39,5 @@ use Rattle.fidelity.specs.Bench.{steppedAll, tally as tallySteps}
 use Rattle.runs.specs.Whole.{Whole}
 
 pub whole : Whole
-unfolding openOf opened openNumber entriesOk allBelow openedState ownedRecords outcome called calledAll packed accessOf accessNumber checked accepted refused soundOf lastSound taskSound tasksSound objectSound sumOf isWithin allBelow-tracker-range rowOf orderingsOf everyDone written leftOut stateAfter localityAfter effectOf classOf store orderingsBytes entryBytes ordering opOf access storesValue writes start startTwo le2 le4 head headObject headObjects section sectionOf sectionChecked logChecked walkOf judged tally bodyEntries bodyFrom entryAt entryFrom onRecord accessOf-reader-entry accessOk orderingOk recordOf headOf sectionOf-codec-decode bodyOf-codec-decode field2 field4 checkedOf parse headAt onHead sectionsAfter sectionsOf sectionAt onSection sectionBody taken ownersOf valuesOf sizesOk bodyBytes sectionsBytes bytesOf part allFrom taskSound-replayer-sound soundOf-replayer-sound allMet movedOf entryNext judged-replayer-next nextOf-replayer-next wordOf isReady readyOf startsOf onParse openOf-replayer-openof earlyNumber onNext stepOf recordedFrom steppedAll tallySteps
+unfolding openOf opened openNumber entriesOk allBelow openedState ownedRecords outcome called calledAll packed accessOf accessNumber checked accepted refused soundOf lastSound taskSound tasksSound objectSound sumOf isWithin allBelow-tracker-range rowOf orderingsOf everyDone written leftOut stateAfter localityAfter effectOf classOf store orderingsBytes entryBytes ordering opOf access reads writes storesValue isValuedRead start startTwo le2 le4 head headObject headObjects section sectionOf sectionChecked logChecked walkOf judged tally bodyEntries bodyFrom entryAt entryFrom onRecord accessOf-reader-entry accessOk orderingOk recordOf headOf sectionOf-codec-decode bodyOf-codec-decode field2 field4 checkedOf parse headAt onHead sectionsAfter sectionsOf sectionAt onSection sectionBody taken ownersOf valuesOf sizesOk bodyBytes sectionsBytes bytesOf part allFrom taskSound-replayer-sound soundOf-replayer-sound allMet movedOf entryNext judged-replayer-next nextOf-replayer-next wordOf isReady readyOf startsOf onParse openOf-replayer-openof earlyNumber onNext stepOf recordedFrom steppedAll tallySteps
 whole = record { size = refl; first-word = refl; second-word = refl; held = refl; end-word = refl; end-memory = refl; end-taken = refl }
