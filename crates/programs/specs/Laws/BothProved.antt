@@ -14,21 +14,23 @@ use Rattle.history.specs.Laws.OneMore.{oneMore-own, oneMore-other}
 use Rattle.history.specs.Replay.{oneMore}
 use Rattle.codec.specs.Bit.{bit}
 use Rattle.reader.specs.Parse.{Parsed, parse}
+use Rattle.entries.specs.declared.Checked.{Checked}
 use Rattle.entries.specs.Reading.{read as reads}
 use Rattle.replayer.specs.declared.Stepped.{Stepped}
 use Rattle.scheduler.specs.Finish.{Play}
 use Rattle.replayer.specs.OpenOf.{openedRun}
 use Rattle.scheduler.specs.Schedule.{scheduleOf, playedBy}
-use Rattle.scheduler.specs.Laws.Schedule.{AllTaken as AllTakenBy, schedule-taken}
+use Rattle.scheduler.specs.Laws.Schedule.{AllTaken as AllTakenBy}
 use Rattle.replayer.specs.StepOf.{stepOf}
 use Rattle.fidelity.specs.Bench.{Bench, benchOf, stepped, steppedAll, takes, tallyOf, AllTaken}
 use Rattle.fidelity.specs.Box.{Opening, Asked, lastBox, recorded, recordingOf, recordingBy}
-use Rattle.fidelity.specs.Laws.LowestFirst.{box-playing, box-bench, box-ends, box-all-done, box-steps, box-finished}
+use Rattle.fidelity.specs.Laws.LowestFirst.{box-bench, box-taken, box-ends, box-all-done, box-steps, box-finished}
 use Rattle.fidelity.specs.Statement.{Accepted, Shows, Faithful, after, done}
 use Rattle.fidelity.specs.Laws.Theorem.{demand-3}
 use Rattle.script.specs.RecordOf.{recordOf}
 use Rattle.replay_lines.specs.Lines.{lineOf}
 use Rattle.transcript.specs.Laws.Text.{text-of-steps}
+use Rattle.transcript.specs.Laws.Told.{taken-stop, taken-steps}
 use Rattle.transcript.specs.Told.{linesOf}
 use Rattle.programs.specs.Both.{accessLine, Lines, none, more, Shown}
 use Rattle.programs.specs.WholeRecording.{outsOf}
@@ -78,7 +80,7 @@ module _ (o : Opening) (asked : List Asked) (outs : ℕ → List ℕ) (lent : Li
       let (e, access, number, shows) = f .answers-recorded before t (w .0) in
       let a = after-more bytes (benchOf bytes lent) before t in
       let rest = lines-all (before ++ (t ∷ [])) steps (rw a (w .1)) in
-      rw (line-shows t (suc (done o asked outs lent before t)) (stepOf (x .run) bytes (x .memory) t .answer) (e .act) number shows)
+      rw (w .0, line-shows t (suc (done o asked outs lent before t)) (stepOf (x .run) bytes (x .memory) t .answer) (e .act) number shows)
       (more access (rw (a, done-more bytes (benchOf bytes lent) before t (w .0)) at rest))
 
 -- a recording that the replay opens, played with always the lowest ready task
@@ -97,7 +99,7 @@ module _ (o : Opening) (asked : List Asked) (outs : ℕ → List ℕ) (lent : Li
   unfolding tallyOf steppedAll
   shown-lines =
       subst (λ (x : Bench). Lines (recorded o asked) (λ t. 0) steps (linesOf b (x .run) (x .memory) steps)) (box-bench o asked outs lent a each p e same)
-      (lines-all o asked outs lent (demand-3 o asked outs lent a) [] steps (rw (box-bench o asked outs lent a each p e same) (bench-taken b start steps (schedule-taken b start (box-playing o asked outs lent a each p e same)))))
+      (lines-all o asked outs lent (demand-3 o asked outs lent a) [] steps (rw (box-bench o asked outs lent a each p e same) (bench-taken b start steps (box-taken o asked outs lent a each p e same))))
 
   pub shown-memory : playedBy b start steps .memory ≡ lastBox o asked .memory
   shown-memory =
@@ -114,7 +116,10 @@ both text z =
     let a = w .accepted lent each in
     let (p, e, same) = demand-3 o (w .asked) outs lent a .reads-back in
     let n = box-steps o (w .asked) outs lent a each p e same in
-    let t = text-of-steps (recordingOf o (w .asked) outs) p (rw (w .is) at (w .short)) e in
+    let x : Play = record { run = openedRun p; memory = p .recording .values; steps = 0 } in
+    let k = box-taken o (w .asked) outs lent a each p e same in
+    let t = text-of-steps (recordingOf o (w .asked) outs) p (rw (w .is) at (w .short)) e (ap (λ (c : Checked). c .number) (taken-stop (recordingOf o (w .asked) outs) x _ k)) in
+    let d : playedBy (recordingOf o (w .asked) outs) x (scheduleOf (recordingOf o (w .asked) outs) (openedRun p)) .steps ≡ length (recorded o (w .asked)) = omega (arith, taken-steps (recordingOf o (w .asked) outs) x (scheduleOf (recordingOf o (w .asked) outs) (openedRun p)) k, n) in
     record {
       opening = o;
       asked = w .asked;
@@ -124,5 +129,5 @@ both text z =
       step-each = n ∙ w .counted;
       lines = linesOf (recordingOf o (w .asked) outs) (openedRun p) (p .recording .values) (scheduleOf (recordingOf o (w .asked) outs) (openedRun p));
       line-each = shown-lines o (w .asked) outs lent a each p e same;
-      is = rw (w .is, t, box-finished o (w .asked) outs lent a each p e same, shown-memory o (w .asked) outs lent a each p e same, n, w .counted, w .left);
+      is = rw (w .is, t, box-finished o (w .asked) outs lent a each p e same, shown-memory o (w .asked) outs lent a each p e same, d, w .counted, w .left);
     }

@@ -10,7 +10,7 @@ use lib.Dec.{eqb}
 use lib.ListN.{length, take, replicate, length-append, length-replicate}
 use Rattle.codec.specs.Laws.Decide.{passes, fails, split, both-pass}
 use Rattle.history.specs.History.{History}
-use Rattle.recorder.specs.AccessOf.{isWrite, accessNumber, accepted, refused, accessOf}
+use Rattle.recorder.specs.AccessOf.{isWrite, accessNumber, accepted, refused, accessOf, valueAfter}
 use Rattle.recorder.specs.Laws.Accepted.{number-takes, written-length as entry-written}
 use Rattle.recorder.specs.WholeRun.{Call, AccessCall, Box, outcome, called, leftBy, calledAll}
 use Rattle.tracker.specs.declared.State.{State}
@@ -66,11 +66,11 @@ count-more h b (a ∷ asked) c v p = count-more (addedBy b (a .call) .entries ++
 written-length : (s : State) (task object sort value : ℕ) (memory out : List ℕ)
     → length (take (accessOf s task object sort value memory out .answer .written) (accessOf s task object sort value memory out .out)) ≡ accessOf s task object sort value memory out .answer .written
 unfolding accessOf accepted refused
-written-length s task object sort value memory out = elim (split (eqb (accessNumber s task object sort value (length memory) (length out)) 0)) [
+written-length s task object sort value memory out = elim (split (eqb (accessNumber s task object sort (length memory) (length out)) 0)) [
   | fails p ↦ rw p
   | passes p ↦
       let t = number-takes s task object sort value memory out (rw p) in
-      let e = entry-written s task object (isWrite sort) value in
+      let e = entry-written s task object (isWrite sort) (valueAfter (isWrite sort) object value memory) in
       rw (p, store-front out _ _ e (t .room), e)
 ]
 
