@@ -53,7 +53,7 @@ abbrev pub sameNumbers : Compared → List ℕ
 sameNumbers a = a .number ∷ a .offset ∷ bit (a .alike) ∷ []
 
 abbrev pub toEndNumbers : Replayed → List ℕ
-toEndNumbers a = a .number ∷ a .offset ∷ a .steps ∷ bit (a .finished) ∷ []
+toEndNumbers a = a .number ∷ a .offset ∷ a .steps ∷ bit (a .finished) ∷ a .stopped .number ∷ a .stopped .offset ∷ []
 
 abbrev pub playableNumbers : Playability → List ℕ
 playableNumbers a = a .number ∷ a .offset ∷ a .task ∷ a .steps ∷ []

@@ -236,10 +236,16 @@ pub extern "C" fn wk_replay_to_end(bytes: &[u8], memory: &mut [u32], answer: &mu
     ensures { λ _. ⌜ now (answer .exit) ≡ store (now (answer .entry)) 0 (toEndNumbers (toEndOf (now (bytes .entry)) (now (memory .entry)) .answer)) ⌝ }
 {
     let r = replay_to_end(bytes, memory);
-    answer[0] = r.number as usize;
-    answer[1] = r.offset;
-    answer[2] = r.steps;
-    answer[3] = r.finished as usize;
+    let stopped = r.stopped;
+    put_six(
+        answer,
+        r.number as usize,
+        r.offset,
+        r.steps,
+        r.finished as usize,
+        stopped.number as usize,
+        stopped.offset,
+    );
 }
 
 // No memory and no run: values play no part, and the call opens the recording itself.
