@@ -44,10 +44,11 @@ extern "C" {
 
 /* Bytes of output. */
 #define WK_HEAD_BYTES(objects) (8 + 5 * (size_t)(objects)) /* wk_open */
-#define WK_ACCESS_BYTES 138  /* wk_access: room for any, an ordering for each of 16 tasks and a write; one without orderings has 6 or 10 */
+#define WK_ACCESS_BYTES 138  /* wk_access: room for any: an ordering for each of 16 tasks and the access */
 #define WK_SECTION_BYTES 12  /* wk_section, wk_pack: for each task, and the bytes of its log */
 #define WK_ORDERING_BYTES 8
-#define WK_READ_BYTES 6
+#define WK_READ_BYTES 6         /* a read without its value, which is no longer written */
+#define WK_VALUED_READ_BYTES 10 /* a read */
 #define WK_WRITE_BYTES 10
 
 /* The number table. */
@@ -70,6 +71,7 @@ extern "C" {
 #define WK_ERR_HELD 16        /* an ordering before the task's next access is not met yet */
 #define WK_ERR_UNSOUND 17     /* the state or run that was passed in is not one that the library made */
 #define WK_ERR_NO_ORDER 18    /* no order of all accesses keeps each task's own order and every ordering */
+#define WK_ERR_DIFFERS 19     /* the memory differs from the value in the read's record */
 #define WK_ERR_ENDS 21        /* wk_pack: the ends fall, pass the logs or are not one for each task */
 
 /* The sort of an access. */
@@ -83,12 +85,13 @@ extern "C" {
 #define WK_CLASS_FENCE 3       /* row 6 */
 #define WK_CLASS_CONFLICTING 4 /* rows 7 to 10 */
 
-/* Kinds of records. A step answers WK_KIND_READ or WK_KIND_WRITE. */
+/* Kinds of records. A step answers WK_KIND_READ, WK_KIND_VALUED_READ or WK_KIND_WRITE. */
 #define WK_KIND_HEAD 1
 #define WK_KIND_SECTION 2
 #define WK_KIND_ORDERING 3
-#define WK_KIND_READ 4
+#define WK_KIND_READ 4 /* without its value: still read, no longer written */
 #define WK_KIND_WRITE 5
+#define WK_KIND_VALUED_READ 6
 
 /*
  * What may be looked at in the arrays of a state or a run. All else in them is the library's own. Nothing in them is for a caller to
@@ -193,11 +196,12 @@ void wk_ready(const size_t places[WK_PLACES], const uint8_t *bytes, size_t bytes
 
 /*
  * One step: does the task's next access on the memory and moves the run on. Refused with 17, 3, 5, 15, what is wrong with the next
- * records (11 to 14), 16; run and memory are then as before. 15 and 16 are no faults: the task has finished, or has to wait.
+ * records (11 to 14), 16, 19; run and memory are then as before. 15 and 16 are no faults: the task has finished, or has to wait. With
+ * 19 the task stays ready: its record says that the read got another value than the memory holds, which no box's recording does.
  */
 #define WK_STEP_NUMBER 0
-#define WK_STEP_OFFSET 1 /* with 11 to 14 */
-#define WK_STEP_KIND 2   /* WK_KIND_READ or WK_KIND_WRITE */
+#define WK_STEP_OFFSET 1 /* with 11 to 14, and with 19 the read's record */
+#define WK_STEP_KIND 2   /* WK_KIND_READ, WK_KIND_VALUED_READ or WK_KIND_WRITE */
 #define WK_STEP_OBJECT 3
 #define WK_STEP_VALUE 4
 #define WK_STEP_ACCESS 5 /* the number of the access, from 1 for each task */
@@ -215,11 +219,17 @@ void wk_finished(const size_t places[WK_PLACES], const uint8_t *bytes, size_t by
  */
 size_t wk_schedule(const size_t places[WK_PLACES], const uint8_t *bytes, size_t bytes_len, uint8_t *out, size_t out_len);
 
-/* A whole replay in one call, the lowest ready task first. Refused with 10 to 14, 3. A replay that sticks is accepted, not finished. */
+/*
+ * A whole replay in one call, the lowest ready task first. Refused with 10 to 14, 3. A replay that sticks is accepted, not finished;
+ * so is one that ends at a read whose record the memory differs from, and its number and offset are told apart, since the memory has
+ * moved.
+ */
 #define WK_REPLAY_TO_END_NUMBER 0
 #define WK_REPLAY_TO_END_OFFSET 1
 #define WK_REPLAY_TO_END_STEPS 2
-#define WK_REPLAY_TO_END_FINISHED 3 /* 1 or 0 */
+#define WK_REPLAY_TO_END_FINISHED 3       /* 1 or 0 */
+#define WK_REPLAY_TO_END_STOPPED_NUMBER 4 /* WK_ERR_DIFFERS or 0 */
+#define WK_REPLAY_TO_END_STOPPED_OFFSET 5 /* the read's record, or 0 */
 void wk_replay_to_end(const uint8_t *bytes, size_t bytes_len, uint32_t *memory, size_t memory_len, size_t answer[WK_ANSWER]);
 
 /*
@@ -236,7 +246,8 @@ void wk_playable(const uint8_t *bytes, size_t bytes_len, uint8_t *out, size_t ou
 
 /*
  * Plays two recordings to their ends, each on a memory of its own, and says whether both finish with the same tasks, objects, steps
- * and memory. Refused with 10 to 14 for the first, 10 to 14 for the second, 3.
+ * and memory. A replay that ends at a read whose record the memory differs from has not finished. Refused with 10 to 14 for the first,
+ * 10 to 14 for the second, 3.
  */
 #define WK_SAME_OUTCOME_NUMBER 0
 #define WK_SAME_OUTCOME_OFFSET 1 /* in the recording that is refused */
