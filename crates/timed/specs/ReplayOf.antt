@@ -1,5 +1,5 @@
--- A recording opened and stepped, always the lowest ready task, until none is ready: a fold of the replayer's `readyOf` and `stepOf`,
--- starting with its `openOf`. A step uses up a record, so as many steps as there are bytes are enough.
+-- A recording opened and stepped, always the lowest ready task, until a step is not taken: a fold of the replayer's `readyOf` and
+-- `stepOf`, starting with its `openOf`. A step uses up a record, so as many steps as there are bytes are enough.
 use mathlib.Core.Bool.{cond}
 use mathlib.Core.List.{List}
 use Prim.Native.Nat.{ℕ, zero, suc}
@@ -35,10 +35,14 @@ taskNext b x = lowestReady (readyOf (x .run) b .word)
 abbrev pub stepAt : List ℕ → Replayed → Replayed
 stepAt b x = stepped (x .digest) (taskNext b x) (stepOf (x .run) b (x .memory) (taskNext b x))
 
+-- the number of its step
+abbrev pub numberNext : List ℕ → Replayed → ℕ
+numberNext b x = stepOf (x .run) b (x .memory) (taskNext b x) .answer .number
+
 -- at most n steps
 unfoldable pub stepsIn : ℕ → List ℕ → Replayed → Replayed
 stepsIn zero b x = x
-stepsIn (suc n) b x = cond (eqb (taskNext b x) 16) x (stepsIn n b (stepAt b x))
+stepsIn (suc n) b x = cond (eqb (numberNext b x) 0) (stepsIn n b (stepAt b x)) x
 
 abbrev pub replayOf : List ℕ → List ℕ → Replayed
 replayOf b memory = stepsIn (length b) b (opened (openOf b memory))

@@ -80,8 +80,8 @@ pub extern "C" fn wk_script(
     digest
 }
 
-// Opens a recording and steps it, always the lowest ready task, until none is ready. A step uses up a record, so as many steps as there
-// are bytes are enough.
+// Opens a recording and steps it, always the lowest ready task, until a step is not taken: none is ready, or the memory differs from a
+// read's record. A step uses up a record, so as many steps as there are bytes are enough.
 #[no_mangle]
 pub extern "C" fn wk_replay(bytes: &[u8], memory: &mut [u32]) -> u64
     ensures { λ r. ⌜ r ≡ replayOf (now (bytes .entry)) (now (memory .entry)) .digest ⌝ }
@@ -93,10 +93,10 @@ pub extern "C" fn wk_replay(bytes: &[u8], memory: &mut [u32]) -> u64
     for _ in 0..bytes.len() {
         let w = ready(run, bytes);
         let task = lowest_ready(w.word) as usize;
-        if task == 16 {
+        let s = replayer::step(run, bytes, memory, task);
+        if s.number != 0 {
             return digest;
         }
-        let s = replayer::step(run, bytes, memory, task);
         digest = mixed(digest, step_word(task, s.kind, s.object, s.value, s.access));
         run = s.run;
     }

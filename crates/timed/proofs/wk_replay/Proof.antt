@@ -3,8 +3,8 @@ use Prim.Native.Nat.{_-_, _≤_, _<_}
 use native.Mathlib.Omega.{arith}
 use denote.Ref.{now}
 use lib.ListN.{length}
-use Rattle.timed.specs.ReplayOf.{Replayed, taskNext, stepsIn, replayOf}
-use Rattle.timed.specs.Laws.LoopsCode.{steps-over, steps-stop, steps-more, step-turn}
+use Rattle.timed.specs.ReplayOf.{Replayed, numberNext, stepsIn, replayOf}
+use Rattle.timed.specs.Laws.LoopsCode.{steps-over, steps-stop, steps-more, step-number, step-kept, step-turn}
 use borrow.Author.Needs.{needs}
 use Rattle.timed.proofs.wk_replay.Statement.{statement}
 use Rattle.timed.proofs.wk_replay.Tie as tie
@@ -35,19 +35,27 @@ lowest-ready-requires c κs = search needs
 cast-task : tie.Need-cast-task Inv-loop μ-loop
 cast-task c = search needs
 
+step-requires : tie.Need-step-requires Inv-loop μ-loop
+step-requires c κs = search needs
+
 same-length : tie.Need-same-length Inv-loop μ-loop
 same-length c = search needs
 
+-- the number of the step's answer
+number-is : (c : tie.After-step Inv-loop μ-loop) →
+    let l = c .before .before .before .before .before .loop in
+    c .step .result .number ≡ numberNext (now (c .before .before .before .before .before .before .before .before .before .before .before .before .before .before .args .bytes)) (record { run = l .run; memory = l .memory; digest = l .digest })
+number-is c = let l = c .before .before .before .before .before .loop in step-number _ (record { run = l .run; memory = l .memory; digest = l .digest }) _ _ _ (c .before .before .before .ready .ensures) (c .before .before .lowest-ready .ensures) (c .step .ensures .0)
+
 returns : tie.Need-returns Inv-loop μ-loop
 returns c =
-    let l = c .before .before .before .before .loop in
+    let l = c .before .before .before .before .before .before .before .before .before .loop in
+    let b = now (c .before .before .before .before .before .before .before .before .before .before .before .before .before .before .before .before .before .before .args .bytes) in
+    let o = c .before .before .before .before .before .before .before .before .before .before .before .before .before .before .«open» .ensures in
     let x : Replayed = record { run = l .run; memory = l .memory; digest = l .digest } in
-    let k : taskNext (now (c .before .before .before .before .before .before .before .before .before .before .before .before .before .args .bytes)) x ≡ 16 = sym (rw (c .before .before .ready .ensures) at (c .before .lowest-ready .ensures)) ∙ c .if1 .taken in
-    let e : x ≡ replayOf (now (c .before .before .before .before .before .before .before .before .before .before .before .before .before .args .bytes)) (now (c .before .before .before .before .before .before .before .before .before .before .before .before .before .args .memory)) = sym (steps-stop (now (c .before .before .before .before .before .before .before .before .before .before .before .before .before .args .bytes)) x _ (l .counter) (c .before .before .before .loop-test .taken) k) ∙ (rw (c .before .before .before .before .before .before .before .before .before .«open» .ensures .0, c .before .before .before .before .before .before .before .before .before .«open» .ensures .1) at (l .inv .3)) in
-    (ap (λ (y : Replayed). y .digest) e, ap (λ (y : Replayed). y .memory) e)
-
-step-requires : tie.Need-step-requires Inv-loop μ-loop
-step-requires c κs = search needs
+    let k : numberNext b x ≡ 0 → ⊥ = λ h. c .if1 .taken (number-is (c .before .before .before .before) ∙ h) in
+    let e : x ≡ replayOf b (now (c .before .before .before .before .before .before .before .before .before .before .before .before .before .before .before .before .before .before .args .memory)) = sym (steps-stop b x _ (l .counter) (c .before .before .before .before .before .before .before .before .loop-test .taken) k) ∙ (rw (o .0, o .1) at (l .inv .3)) in
+    (ap (λ (y : Replayed). y .digest) e, step-kept b x _ _ _ (c .before .before .before .before .before .before .before .ready .ensures) (c .before .before .before .before .before .before .lowest-ready .ensures) (c .before .before .before .before .step .ensures .1) k ∙ ap (λ (y : Replayed). y .memory) e)
 
 step-word-requires : tie.Need-step-word-requires Inv-loop μ-loop
 step-word-requires c κs = search needs
@@ -56,22 +64,22 @@ mixed-requires : tie.Need-mixed-requires Inv-loop μ-loop
 mixed-requires c κs = search needs
 
 add-counter : tie.Need-add-counter Inv-loop μ-loop
-add-counter c = omega (arith, c .before .before .before .before .before .before .before .before .before .before .loop-test .taken, c .before .before .before .before .before .before .before .before .before .before .before .loop .inv)
+add-counter c = omega (arith, c .before .before .before .before .before .before .before .before .before .before .before .loop-test .taken, c .before .before .before .before .before .before .before .before .before .before .before .before .loop .inv)
 
 loop-less : tie.Need-loop-less Inv-loop μ-loop
 loop-less c = search needs
 
 loop-again : tie.Need-loop-again Inv-loop μ-loop
 loop-again c =
-    let l = c .before .before .before .before .before .before .before .before .before .before .before .loop in
-    let b = now (c .before .before .before .before .before .before .before .before .before .before .before .before .before .before .before .before .before .before .before .before .args .bytes) in
+    let l = c .before .before .before .before .before .before .before .before .before .before .before .before .loop in
+    let b = now (c .before .before .before .before .before .before .before .before .before .before .before .before .before .before .before .before .before .before .before .before .before .args .bytes) in
     let x : Replayed = record { run = l .run; memory = l .memory; digest = l .digest } in
-    let s = c .before .before .before .before .before .step in
-    let k : taskNext b x ≡ 16 → ⊥ = λ h. c .before .before .before .before .before .before .before .if1 .left (rw (c .before .before .before .before .before .before .before .before .before .ready .ensures) at (c .before .before .before .before .before .before .before .before .lowest-ready .ensures) ∙ h) in (
-      omega (arith, c .before .before .before .before .before .before .before .before .before .before .loop-test .taken),
+    let s = c .before .before .before .before .before .before .before .step in
+    let k : numberNext b x ≡ 0 = sym (number-is (c .before .before .before .before .before .before .before)) ∙ c .before .before .before .if1 .left in (
+      omega (arith, c .before .before .before .before .before .before .before .before .before .before .before .loop-test .taken),
       l .inv .1,
       search needs,
-      ap (stepsIn _ b) (step-turn b x (c .before .before .before .before .before .before .before .before .before .ready .result) (c .before .before .before .before .before .before .before .before .lowest-ready .result) (s .result) _ _ _ (c .before .before .before .before .before .before .before .before .before .ready .ensures) (c .before .before .before .before .before .before .before .before .lowest-ready .ensures) (s .ensures .0) (s .ensures .1) (c .before .before .step-word .ensures .0) (c .before .mixed .ensures)) ∙ steps-more b x _ (l .counter) (c .before .before .before .before .before .before .before .before .before .before .loop-test .taken) k ∙ l .inv .3,
+      ap (stepsIn _ b) (step-turn b x (c .before .before .before .before .before .before .before .before .before .before .ready .result) (c .before .before .before .before .before .before .before .before .before .lowest-ready .result) (s .result) _ _ _ (c .before .before .before .before .before .before .before .before .before .before .ready .ensures) (c .before .before .before .before .before .before .before .before .before .lowest-ready .ensures) (s .ensures .0) (s .ensures .1) (c .before .before .step-word .ensures .0) (c .before .mixed .ensures)) ∙ steps-more b x _ (l .counter) (c .before .before .before .before .before .before .before .before .before .before .before .loop-test .taken) k ∙ l .inv .3,
     )
 
 same-length-2 : tie.Need-same-length-2 Inv-loop μ-loop
@@ -96,9 +104,9 @@ wk-replay-spec =
     ready-requires
     lowest-ready-requires
     cast-task
+    step-requires
     same-length
     returns
-    step-requires
     step-word-requires
     mixed-requires
     add-counter
