@@ -5,6 +5,7 @@ use crate::cases::Cases;
 use crate::ours::{self, Answer, State};
 use crate::peer::{number, reader, recorder, replayer};
 use crate::theirs;
+use crate::values::Values;
 use std::fmt::Debug;
 
 /// The error says what differs.
@@ -39,11 +40,12 @@ fn same_answer(what: &str, ours: Answer, theirs: &[usize]) -> Same {
     same(what, ours, fields)
 }
 
-/// Counts the calls, and the cases of `playable`.
+/// Counts the calls, and the cases of `playable` and of values.
 #[derive(Default)]
 pub struct Both {
     pub answers: u64,
     pub cases: Cases,
+    pub values: Values,
 }
 
 impl Both {
@@ -206,13 +208,14 @@ impl Both {
         same_list("schedule", &out, &whole)
     }
 
+    /// The step's number.
     pub fn step(
         &mut self,
         run: &mut replayer::Run,
         bytes: &[u8],
         memory: &mut [u32],
         task: usize,
-    ) -> Same {
+    ) -> Same<u32> {
         self.answers += 1;
         let mut memory_2 = memory.to_vec();
         let mut places = ours::places_of(run);
@@ -227,8 +230,10 @@ impl Both {
             theirs.access as usize,
         ];
         same_answer("step", ours, &fields)?;
+        self.values.stepped(bytes, fields);
         same_list("step's run", &places, &ours::places_of(run))?;
-        same_list("step's memory", memory, &memory_2)
+        same_list("step's memory", memory, &memory_2)?;
+        Ok(theirs.number)
     }
 
     pub fn same_outcome(
@@ -242,6 +247,10 @@ impl Both {
         let theirs = replayer::same_outcome(first, second, &mut one_2, &mut two_2);
         let fields = [theirs.number as usize, theirs.offset, theirs.alike.into()];
         same_answer("same_outcome", ours, &fields)?;
+        let stopped = [(first, &one_2), (second, &two_2)].map(|(bytes, memory)| {
+            theirs.number == 0 && theirs::replay_to_end(bytes, &mut memory.clone())[4] != 0
+        });
+        self.values.compared(stopped, theirs.alike);
         same_list("same_outcome's first memory", one, &one_2)?;
         same_list("same_outcome's second memory", two, &two_2)
     }
@@ -266,6 +275,7 @@ impl Both {
         let theirs = theirs::replay_to_end(bytes, &mut memory_2);
         same_answer("replay_to_end", ours, &theirs)?;
         same_list("replay_to_end's memory", memory, &memory_2)?;
+        self.values.ended(bytes, theirs);
         let ours = ours::replay(bytes, &mut again);
         let theirs = theirs::replay_by_word(bytes, &mut again_2);
         same("digest of a replay", ours, theirs)?;

@@ -195,7 +195,9 @@ impl Script {
 
     fn steps(&mut self, mut run: replayer::Run, bytes: &[u8], memory: &mut [u32]) -> Same {
         let any_order = self.random.once_in(2);
-        loop {
+        // A read that differs from its record stays ready, and only others may go on.
+        let mut idle = 0;
+        while idle < 40 {
             if self.random.once_in(12) {
                 self.odd_steps(&run, bytes)?;
             }
@@ -209,7 +211,8 @@ impl Script {
             let any = self.random.index(run.tasks);
             let task = self.random.pick(&[lowest, highest, any]);
             let task = if any_order { task } else { lowest };
-            self.both.step(&mut run, bytes, memory, task)?;
+            let number = self.both.step(&mut run, bytes, memory, task)?;
+            idle = if number == 0 { 0 } else { idle + 1 };
         }
         for task in 0..17 {
             self.both.step(&mut run, bytes, memory, task)?;
@@ -244,7 +247,7 @@ impl Script {
             .same_outcome([first, second], [&mut one, &mut two])
     }
 
-    /// A recording, a loose one, and one of the two damaged.
+    /// A recording, a loose one, one of the two damaged, and each with a value changed and some reads without theirs.
     fn play(&mut self) -> Same {
         let loose = self.random.loose_recording();
         let recording = self.recording()?.unwrap_or_else(|| loose.clone());
@@ -252,11 +255,15 @@ impl Script {
         for _ in 0..1 + self.random.below(2) {
             self.random.damage(&mut damaged);
         }
-        let all = [recording, loose, damaged];
+        let mixed = self.random.mostly(2, recording.clone(), loose.clone());
+        let mixed = self.random.without_values(&mixed);
+        let mut bent = self.random.mostly(3, recording.clone(), mixed.clone());
+        self.random.bend_value(&mut bent);
+        let all = [recording, loose, damaged, mixed, bent];
         for bytes in &all {
             self.read(bytes)?;
         }
-        let (first, second) = (&all[self.random.below(3)], &all[self.random.below(3)]);
+        let (first, second) = (&all[self.random.below(5)], &all[self.random.below(5)]);
         self.compare(first, second)?;
         let twin = self.random.twin(first);
         self.compare(first, &twin)?;
@@ -295,7 +302,7 @@ impl Script {
 }
 
 /// Scripts of the seeds from `seed` on; says how many calls were compared and what differs first, and if asked how often each case of
-/// `playable` was reached. False where any differ.
+/// `playable` and of values was reached. False where any differ.
 pub fn run(seed: u64, count: u64, cases: bool) -> bool {
     let mut both = Both::default();
     let mut differ = 0;
@@ -313,6 +320,7 @@ pub fn run(seed: u64, count: u64, cases: bool) -> bool {
     }
     if cases {
         both.cases.print();
+        both.values.print();
     }
     println!("{count} scripts, {} answers, {differ} differ", both.answers);
     differ == 0

@@ -23,6 +23,11 @@ pub fn half_at(bytes: &[u8], at: usize) -> usize {
     u16::from_le_bytes([bytes[at], bytes[at + 1]]).into()
 }
 
+/// The field of four bytes at this place.
+pub fn word_at(bytes: &[u8], at: usize) -> u32 {
+    (half_at(bytes, at) + (half_at(bytes, at + 2) << 16)) as u32
+}
+
 /// How many accesses a recording has; 0 for bytes that do not read.
 pub fn accesses_in(bytes: &[u8]) -> usize {
     reader::scan(bytes).map_or(0, |layout| {
@@ -165,10 +170,14 @@ impl Random {
         let object = self.mostly(100, object, any);
         let number = self.mostly(100, 1 + number, any);
         let other = self.pick(&[8, 12, any]);
+        // Values that a read often finds.
+        let few = self.below(2);
         match self.below(300) {
             0 => fields(&[other, number, task, 0, 0, 0]),
             1..=75 => fields(&[8, 3, task, number]),
-            76..=150 => fields(&[6, 4, object]),
+            76..=110 => fields(&[6, 4, object]),
+            111..=150 => fields(&[10, 6, object, few, 0]),
+            151..=225 => fields(&[10, 5, object, few, 0]),
             _ => fields(&[10, 5, object, any, number]),
         }
     }
@@ -208,7 +217,8 @@ impl Random {
         let mut bytes = fields(&[8 + 5 * objects, 1, tasks, objects]);
         for _ in 0..objects {
             bytes.push(self.below(tasks) as u8);
-            bytes.extend(self.word().to_le_bytes());
+            let (few, any) = (self.below(2) as u32, self.word());
+            bytes.extend(self.mostly(4, few, any).to_le_bytes());
         }
         for task in 0..tasks {
             bytes.extend(self.section(task, tasks, objects));

@@ -1,7 +1,8 @@
 //! The proved library beside `peer.rs`, an implementation of the same calls from the papers. Both do the same work on the same bytes in
 //! this process: first a table of times, then random calls whose answers are compared.
 //!
-//! Arguments: the first script's seed and the number of scripts; then `cases`, to see how often each case of `playable` was reached.
+//! Arguments: the first script's seed and the number of scripts; then `cases`, to see how often each case of `playable` and of values
+//! was reached, or `texts FOLDER`, which only writes that many recordings with what the programs must write for them.
 
 mod both;
 mod cases;
@@ -14,7 +15,9 @@ mod ours;
 mod peer;
 mod random;
 mod table;
+mod texts;
 mod theirs;
+mod values;
 
 fn main() {
     let numbers: Vec<u64> = std::env::args()
@@ -23,7 +26,14 @@ fn main() {
         .collect();
     let seed = numbers.first().copied().unwrap_or(1);
     let count = numbers.get(1).copied().unwrap_or(12_000);
-    let cases = std::env::args().last().is_some_and(|word| word == "cases");
+    let words: Vec<String> = std::env::args().skip(3).collect();
+    if let [word, folder] = &words[..] {
+        if word == "texts" {
+            texts::write(folder.as_ref(), seed, count).expect("the folder can be written");
+            return;
+        }
+    }
+    let cases = words.last().is_some_and(|word| word == "cases");
     table::print();
     if !differ::run(seed, count, cases) {
         std::process::exit(1);

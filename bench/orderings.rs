@@ -26,7 +26,7 @@ pub fn orderings_in(bytes: &[u8]) -> Vec<(usize, usize)> {
 /// For each task its accesses, and for each access the orderings before it: source and number.
 type Plan = Vec<Vec<Vec<[usize; 2]>>>;
 
-/// A recording of one object, read and written in turn.
+/// A recording of one object, read and written in turn, with a value or without.
 fn recording_of(plan: &Plan) -> Vec<u8> {
     let mut bytes = fields(&[13, 1, plan.len(), 1]);
     bytes.extend([0; 5]);
@@ -36,9 +36,10 @@ fn recording_of(plan: &Plan) -> Vec<u8> {
             for &[source, number] in orderings {
                 body.extend(fields(&[8, 3, source, number]));
             }
-            body.extend(match k % 2 {
+            body.extend(match k % 3 {
                 0 => fields(&[6, 4, 0]),
-                _ => fields(&[10, 5, 0, k, 0]),
+                1 => fields(&[10, 5, 0, k % 2, 0]),
+                _ => fields(&[10, 6, 0, task % 2, 0]),
             });
         }
         let size = body.len();

@@ -1,6 +1,6 @@
 //! The other side of the calls that do many at once: what `crates/timed/src/lib.rt` and `crates/linked/src/pack.rt` do, by `peer.rs`.
 
-use crate::inputs::Script;
+use crate::inputs::{half_at, word_at, Script};
 use crate::peer::{number, recorder, replayer};
 
 // The digest as `crates/timed/specs/Digest.antt` has it.
@@ -76,15 +76,16 @@ pub fn pack(state: &recorder::State, logs: &[u8], ends: &[usize], out: &mut [u8]
     [0, 0, 0, sections(state, logs, ends, out)]
 }
 
-/// Number, offset, steps and whether it finished. A scheduler of its own finds the lowest ready task.
+/// Number, offset, steps, whether it finished, and what stopped it with its offset. A scheduler of its own finds the lowest ready task.
 #[inline(never)]
-pub fn replay_to_end(bytes: &[u8], memory: &mut [u32]) -> [usize; 4] {
+pub fn replay_to_end(bytes: &[u8], memory: &mut [u32]) -> [usize; 6] {
     let mut opened = replayer::open(bytes, memory);
     if opened.number != 0 {
-        return [opened.number as usize, opened.offset, 0, 0];
+        return [opened.number as usize, opened.offset, 0, 0, 0, 0];
     }
     let played = replayer::replay_to_end(&mut opened.run, bytes, memory, |_, _| {});
-    [0, 0, played.steps, played.finished as usize]
+    let (finished, stopped) = (played.finished as usize, played.stopped as usize);
+    [0, 0, played.steps, finished, stopped, played.stopped_at]
 }
 
 /// Number, offset, task and steps.
@@ -101,10 +102,10 @@ pub fn replay_by_word(bytes: &[u8], memory: &mut [u32]) -> u64 {
     let mut digest = opened.number.into();
     loop {
         let task = replayer::lowest_ready(replayer::ready(&opened.run, bytes).word) as usize;
-        if task == 16 {
+        let s = replayer::step(&mut opened.run, bytes, memory, task);
+        if s.number != 0 {
             return digest;
         }
-        let s = replayer::step(&mut opened.run, bytes, memory, task);
         digest = mixed(digest, step_word(task, &s));
     }
 }
@@ -116,7 +117,8 @@ pub fn finished(run: &replayer::Run, bytes: &[u8]) -> [usize; 2] {
     [number, done.into()]
 }
 
-/// The lowest ready task, stepped again and again, as often as there is room.
+/// The lowest ready task, stepped again and again, as often as there is room. The order does not look at values: a read that would not
+/// be done finds its record's value in the memory the next time.
 pub fn schedule(run: &replayer::Run, bytes: &[u8], room: usize) -> Vec<u8> {
     let (mut run, mut tasks) = (run.clone(), Vec::new());
     let mut memory = vec![0; run.objects.min(256)];
@@ -126,7 +128,11 @@ pub fn schedule(run: &replayer::Run, bytes: &[u8], room: usize) -> Vec<u8> {
             break;
         }
         let task = replayer::lowest_ready(word) as usize;
-        replayer::step(&mut run, bytes, &mut memory, task);
+        let s = replayer::step(&mut run, bytes, &mut memory, task);
+        if s.number == number::READ_DIFFERS {
+            memory[half_at(bytes, s.offset + 4)] = word_at(bytes, s.offset + 6);
+            continue;
+        }
         tasks.push(task as u8);
     }
     tasks
