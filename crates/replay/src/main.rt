@@ -15,11 +15,12 @@ fn main() {
 Reads FILE; with no FILE, or with -, standard input. A recording has at most 65,536 bytes; more give: long.
 
 Writes to standard output one line for each step: task, number of the access, R or W, object, value.
-Then end or stuck with the number of steps, then memory with its values. If the input is not a valid
-recording it writes refused, a number, and the offset of the record that failed.
+Then end or stuck with the number of steps, then memory with its values. If a read's record has another
+value than the memory, it writes refused 19 and the offset of that record, and stops. If the input is not a
+valid recording it writes refused, a number, and the offset of the record that failed.
 
-Writes to standard error what each task waits for if the play is stuck, and what could not be read or
-written.
+Writes to standard error what each task waits for if the play is stuck, what the record and the memory hold
+if it was stopped, and what could not be read or written.
 
 There is no exit status: look at what was written.
 ",
