@@ -7,6 +7,8 @@ use check::same;
 use libc::STDERR_FILENO;
 use libc::STDIN_FILENO;
 use libc::STDOUT_FILENO;
+use lines::fields::NONE;
+use lines::fields::field;
 
 // The input is at the front of the buffer, `count` bytes. If `read` is false there is nothing to work on, and the reason has already been
 // written.
@@ -84,49 +86,154 @@ fn from_standard(program: &[u8], expected: &[u8], buffer: &mut [u8]) -> Input
     fill(STDIN_FILENO, program, b"standard input", buffer)
 }
 
-// Writes how the program is called.
-fn put_usage(fd: i32, program: &[u8]) {
+// Writes how the program is called; `options` names what it takes before the file.
+fn put_usage(fd: i32, program: &[u8], options: &[u8]) {
     io::write_all(fd, b"usage: ");
     io::write_all(fd, program);
+    io::write_all(fd, options);
     io::write_all(fd, b" [FILE | --help]\n");
 }
 
-// Follows the one argument: `-` is standard input, and any other word that begins with it is an option.
-fn from_argument(program: &[u8], expected: &[u8], help: &[u8], buffer: &mut [u8]) -> Input
+// Says how the program is called, and reads nothing.
+fn misused(program: &[u8], options: &[u8]) -> Input
+    ensures { λ r. ⌜ (r .read ≡ false) × (r .count ≡ 0) ⌝ }
+{
+    put_usage(STDERR_FILENO, program, options);
+    nothing()
+}
+
+// Whether a word begins as an option does.
+fn is_option(word: &[u8]) -> bool {
+    if word.len() == 0 {
+        return false;
+    }
+    word[0] == b'-'
+}
+
+// Follows a word: `-` is standard input, and any other word that begins with it is an option.
+fn from_word(
+    word: &[u8],
+    program: &[u8],
+    options: &[u8],
+    expected: &[u8],
+    help: &[u8],
+    buffer: &mut [u8],
+) -> Input
+    ensures { λ r. ⌜ Counts (r .count) (now (buffer .exit)) ⌝ }
+{
+    if same(word, b"-") {
+        return from_standard(program, expected, buffer);
+    }
+    if same(word, b"--help") {
+        put_usage(STDOUT_FILENO, program, options);
+        io::write_all(STDOUT_FILENO, help);
+        return nothing();
+    }
+    if is_option(word) {
+        return misused(program, options);
+    }
+    from_file(program, word, buffer)
+}
+
+// Follows the argument at an index, the last.
+fn from_argument(
+    at: usize,
+    program: &[u8],
+    options: &[u8],
+    expected: &[u8],
+    help: &[u8],
+    buffer: &mut [u8],
+) -> Input
     ensures { λ r. ⌜ Counts (r .count) (now (buffer .exit)) ⌝ }
 {
     let mut word = io::buffer();
-    let length = os::arg(1, &mut word);
+    let length = os::arg(at, &mut word);
     if os::errno() != 0 {
         fail(program, b"file name");
         return nothing();
     }
-    if same(&word[..length], b"-") {
+    from_word(&word[..length], program, options, expected, help, buffer)
+}
+
+// Reads what the arguments from `at` on name: at most one of them.
+fn from_rest(
+    at: usize,
+    program: &[u8],
+    options: &[u8],
+    expected: &[u8],
+    help: &[u8],
+    buffer: &mut [u8],
+) -> Input
+    ensures { λ r. ⌜ Counts (r .count) (now (buffer .exit)) ⌝ }
+{
+    let words = os::arg_count();
+    if words <= at {
         return from_standard(program, expected, buffer);
     }
-    if same(&word[..length], b"--help") {
-        put_usage(STDOUT_FILENO, program);
-        io::write_all(STDOUT_FILENO, help);
-        return nothing();
+    if at < words - 1 {
+        return misused(program, options);
     }
-    if word[0] == b'-' {
-        put_usage(STDERR_FILENO, program);
-        return nothing();
-    }
-    from_file(program, &word[..length], buffer)
+    from_argument(at, program, options, expected, help, buffer)
 }
 
 // Reads what the arguments of the program `program` name. `expected` names the input, and `help` says what the program does with it.
 pub fn from_arguments(program: &[u8], expected: &[u8], help: &[u8], buffer: &mut [u8]) -> Input
     ensures { λ r. ⌜ Counts (r .count) (now (buffer .exit)) ⌝ }
 {
-    let words = os::arg_count();
-    if words < 2 {
-        return from_standard(program, expected, buffer);
+    from_rest(1, program, b"", expected, help, buffer)
+}
+
+// The input and the task that the option --task chose. If `one` is false there was no such option.
+pub struct ChosenInput {
+    pub read: bool,
+    pub count: usize,
+    pub one: bool,
+    pub task: usize,
+}
+
+// Whether the first argument is the option --task.
+fn is_task_option() -> bool {
+    let mut word = io::buffer();
+    let length = os::arg(1, &mut word);
+    same(&word[..length], b"--task")
+}
+
+// The argument after the option, as a number; NONE or more if it is none or not there.
+fn task_word() -> u64 {
+    let mut word = io::buffer();
+    let length = os::arg(2, &mut word);
+    field(&word[..length])
+}
+
+// The same as `from_arguments` for a program that takes --task TASK before the file.
+pub fn with_task(program: &[u8], expected: &[u8], help: &[u8], buffer: &mut [u8]) -> ChosenInput
+    ensures { λ r. ⌜ Counts (r .count) (now (buffer .exit)) ⌝ }
+{
+    let options = b" [--task TASK]";
+    if !is_task_option() {
+        let i = from_rest(1, program, options, expected, help, buffer);
+        return ChosenInput {
+            read: i.read,
+            count: i.count,
+            one: false,
+            task: 0,
+        };
     }
-    if 2 < words {
-        put_usage(STDERR_FILENO, program);
-        return nothing();
+    let task = task_word();
+    if NONE <= task {
+        put_usage(STDERR_FILENO, program, options);
+        return ChosenInput {
+            read: false,
+            count: 0,
+            one: false,
+            task: 0,
+        };
     }
-    from_argument(program, expected, help, buffer)
+    let i = from_rest(3, program, options, expected, help, buffer);
+    ChosenInput {
+        read: i.read,
+        count: i.count,
+        one: true,
+        task: task as usize,
+    }
 }

@@ -42,7 +42,8 @@ pub fn blank_order() -> [u8; MOST_STEPS]
     [0u8; MOST_STEPS]
 }
 
-fn letter(kind: u16) -> u8
+// The letter of an access: R for a read, else W.
+pub fn letter(kind: u16) -> u8
     ensures { λ r. ⌜ r ≡ letterOf kind ⌝ }
 {
     if reads(kind) { b'R' } else { b'W' }

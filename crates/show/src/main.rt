@@ -1,0 +1,42 @@
+// The show program (document 02, F-3): lists the records of a recording from a file or standard input.
+use listing::space;
+use listing::tell;
+
+// Reads one byte more than a recording may have, to notice a longer one.
+fn main() {
+    let mut bytes = [0u8; 65537];
+    let asked = input::with_task(
+        b"show",
+        b"a recording",
+        b"Lists the records of a recording, one a line, in the order of the file. Nothing is played.
+
+Reads FILE; with no FILE, or with -, standard input. A recording has at most 65,536 bytes; more give: long.
+With --task TASK it lists only the section of that task.
+
+Each line begins with the offset of the record:
+  0 head T N                        the number of tasks, the number of objects
+  18 section TASK ACCESSES BYTES    a task, its accesses, the length of its records
+  40 ordering 0 after 1 1           the next access of task 0 comes after access 1 of task 1
+  48 0 2 R 0 7                      access 2 of task 0 reads object 0 and gets 7; W writes
+A read that was recorded without its value has - for it.
+
+If the input is not a valid recording it lists the records before the one that failed, and then writes
+refused, a number, and the offset of the record that failed. A TASK that the recording does not have
+gives: refused 5 0.
+
+Writes to standard error what could not be read or written.
+
+There is no exit status: look at what was written.
+",
+        &mut bytes,
+    );
+    if !asked.read {
+        return;
+    }
+    let n = asked.count;
+    let mut out = space();
+    let text = tell(&bytes[..n], asked.one, asked.task, &mut out);
+    if !io::write_all(1, &out[..text]) {
+        io::write_all(2, b"show: could not write all of the list\n");
+    }
+}
