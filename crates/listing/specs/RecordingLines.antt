@@ -1,4 +1,4 @@
--- The lines of a recording as a value, with the offsets added up. For its bytes the walk gives the same (`Laws.Complete.all-listed`).
+-- The lines of a recording as a value, with the offsets added up. For its bytes the walk gives the same (`Laws/Complete.all-shown`).
 use mathlib.Core.List.{List, [], _∷_, _++_}
 use Prim.Native.Nat.{ℕ, suc, _+_, _*_}
 use lib.ListN.{length}

@@ -1,5 +1,6 @@
 -- The laws of this crate's definitions. All of them are proved; a reader does not have to trust anything here.
 pub mod BothProved
+pub mod ListedProved
 pub mod Numbered
 pub mod PlayableProved
 pub mod Ran

@@ -1,4 +1,5 @@
 pub mod Both
+pub mod Listed
 pub mod Playable
 pub mod Wanted
 pub mod WholeRecording

@@ -3,6 +3,7 @@ use Rattle.recorder.specs.Full.{Full}
 use Rattle.runs.specs.Rows.{Rows}
 use Rattle.runs.specs.Calls.{Calls}
 use Rattle.runs.specs.Bytes.{Bytes}
+use Rattle.runs.specs.Kinds.{Kinds}
 use Rattle.runs.specs.Whole.{Whole}
 
 pub record Table : Type 0 where
@@ -14,5 +15,7 @@ pub record Table : Type 0 where
   pub full-runs : Full
   -- bytes: none; the smallest recording, cut and longer; an ordering from number 0
   pub byte-runs : Bytes
+  -- run A by document 01's sizes, with kind 4; with kind 6; and with a changed value
+  pub kind-runs : Kinds
   -- run A end to end: its ready words, and its replay
   pub whole-run : Whole

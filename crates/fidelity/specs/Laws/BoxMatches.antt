@@ -49,7 +49,7 @@ module _ (o : Opening) (accepted : openedBy o .answer .number ≡ 0) where
     follows : Follows (startOf o) (o .tasks) (o .objects) (lastBox o asked) (recorded o asked)
     follows = follows-last o accepted asked
 
-    in-range : InRange (recordingBy o asked)
+    pub in-range : InRange (recordingBy o asked)
     in-range = record {
       head = head-in;
       body-each = bodies-length (recorded o asked) 0 (o .tasks);
@@ -70,7 +70,7 @@ module _ (o : Opening) (accepted : openedBy o .answer .number ≡ 0) where
 
     module _ (outs : ℕ → List ℕ)
         (sections : (t : ℕ) → t < o .tasks → sectionOf (lastBox o asked .state) t (lastBox o asked .logs t) (outs t) .answer .number ≡ 0) where
-      recording-bytes : recordingOf o asked outs ≡ bytesOf (recordingBy o asked)
+      pub recording-bytes : recordingOf o asked outs ≡ bytesOf (recordingBy o asked)
       unfolding bytesOf
       recording-bytes = rw (head-wrote, packed-is follows outs sections 0 (o .tasks) (omega arith))
 

@@ -21,10 +21,10 @@ use Rattle.entries.specs.Bytes.{orderingsBytes, entryBytes, entryLength, bodyBy
 use Rattle.entries.specs.declared.Limits.{Limits}
 use Rattle.entries.specs.Laws.Bytes.{entry-length}
 use Rattle.entries.specs.Reading.{read}
-use Rattle.entries.specs.Recording.{Entry}
+use Rattle.entries.specs.Recording.{Entry, Recording}
 use Rattle.reader.specs.Laws.Strict.{parse-strict}
 use Rattle.reader.specs.Parse.{Parsed, parse}
-use Rattle.reader.specs.Range.{OrderingsIn, EntryIn, EntriesIn, BodiesIn}
+use Rattle.reader.specs.Range.{OrderingsIn, EntryIn, EntriesIn, BodiesIn, InRange}
 use Rattle.replay_lines.specs.Limits.{longest}
 use Rattle.listing.specs.declared.Place.{Place}
 use Rattle.listing.specs.Listed.{shows, listed, lineAt, afterOf, partAt, start}
@@ -113,15 +113,12 @@ module _ (chosen : ℕ) (b : List ℕ) where
       let g = body-comes m ht ho es (p .at + 12) t 1 (w .0 .entries) d in
       rw (← append-assoc, ← append-assoc) (sections-come tasks objects ht ho bodies (suc t) _ (omega arith) (w .1) g)
 
--- THE LIST IS COMPLETE: the list of everything is the lines of the recording that the bytes mean
-pub all-listed : (chosen : ℕ) (b : List ℕ) (p : Parsed) → Bytes b → parse b ≡ read p → linesTo false chosen b (length b) ≡ recordingLines (p .recording)
+-- the bytes of a recording in range
+pub value-listed : (chosen : ℕ) (b : List ℕ) (r : Recording) → b ≡ bytesOf r → InRange r → linesTo false chosen b (length b) ≡ recordingLines r
 unfolding bytesOf recordingLines head lineAt afterOf
-all-listed chosen b p by e =
-    let s = parse-strict b p by e in
-    let i = s .in-range in
-    let r = p .recording in
+value-listed chosen b r e i =
     let n : ℕ = length (r .owners) in
-    let c : Comes chosen b [] start (head (r .tasks) (r .owners) (r .values) ++ sectionsBytes 0 (r .bodies)) = record { reached = reached-start false chosen b (length b); ahead = s .bytes } in
+    let c : Comes chosen b [] start (head (r .tasks) (r .owners) (r .values) ++ sectionsBytes 0 (r .bodies)) = record { reached = reached-start false chosen b (length b); ahead = e } in
     let z : 5 * n ≤ length (headObjects (r .owners) (r .values) ++ sectionsBytes 0 (r .bodies)) = rw (length-append, head-objects-length (r .owners) (r .values) (i .head .value-each)) (omega arith) in
     let q = read-head short (r .tasks) n (headObjects (r .owners) (r .values) ++ sectionsBytes 0 (r .bodies)) (omega (arith, i .head .few-tasks)) (i .head .few-objects) z in
     let k = head-length (r .tasks) (r .owners) (r .values) (i .head .value-each) in
@@ -129,7 +126,12 @@ all-listed chosen b p by e =
     let y : 0 + headLength n ≡ headLength n = omega arith in
     rw y at (sections-come chosen b (r .tasks) n (omega (arith, i .head .few-tasks)) (omega (arith, i .head .few-objects)) (r .bodies) 0 _ (omega (arith, i .body-each, i .head .few-tasks)) (i .bodies) d)
 
--- and it is the whole text
-pub all-shown : (chosen : ℕ) (b : List ℕ) (p : Parsed) → Bytes b → length b ≤ longest → parse b ≡ read p → textOf false chosen b ≡ recordingLines (p .recording)
+-- the lines are the whole text
+pub value-shown : (chosen : ℕ) (b : List ℕ) (p : Parsed) → length b ≤ longest → parse b ≡ read p → b ≡ bytesOf (p .recording) → InRange (p .recording)
+    → textOf false chosen b ≡ recordingLines (p .recording)
 unfolding textOf answerOf isMissing
-all-shown chosen b p by h e = rw (le-ltb longest (length b) h, e) (all-listed chosen b p by e)
+value-shown chosen b p h e q i = rw (le-ltb longest (length b) h, e) (value-listed chosen b (p .recording) q i)
+
+-- THE LIST IS COMPLETE: for all bytes that are read, the text of everything is the lines of the recording that they mean
+pub all-shown : (chosen : ℕ) (b : List ℕ) (p : Parsed) → Bytes b → length b ≤ longest → parse b ≡ read p → textOf false chosen b ≡ recordingLines (p .recording)
+all-shown chosen b p by h e = let s = parse-strict b p by e in value-shown chosen b p h e (s .bytes) (s .in-range)
