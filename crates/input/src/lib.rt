@@ -2,6 +2,7 @@
 // own words, and is never taken for an empty file.
 ghost use mathlib.Core.Bool.{false};
 ghost use mathlib.Core.Path.{_≡_};
+ghost use Prim.Native.Nat.{_<_};
 ghost use Rattle.io.specs.Counts.{Counts};
 use check::same;
 use libc::STDERR_FILENO;
@@ -198,7 +199,7 @@ fn is_task_option() -> bool {
     same(&word[..length], b"--task")
 }
 
-// The argument after the option, as a number; NONE or more if it is none or not there.
+// The argument after the option as a number; NONE or more if it is missing or not a number.
 fn task_word() -> u64 {
     let mut word = io::buffer();
     let length = os::arg(2, &mut word);
@@ -208,6 +209,7 @@ fn task_word() -> u64 {
 // The same as `from_arguments` for a program that takes --task TASK before the file.
 pub fn with_task(program: &[u8], expected: &[u8], help: &[u8], buffer: &mut [u8]) -> ChosenInput
     ensures { λ r. ⌜ Counts (r .count) (now (buffer .exit)) ⌝ }
+    ensures { λ r. ⌜ r .task < 4294967296 ⌝ }
 {
     let options = b" [--task TASK]";
     if !is_task_option() {

@@ -13,12 +13,12 @@ fn main() {
 Reads FILE; with no FILE, or with -, standard input. A recording has at most 65,536 bytes; more give: long.
 With --task TASK it lists only the section of that task.
 
-Each line begins with the offset of the record:
-  0 head T N                        the number of tasks, the number of objects
-  18 section TASK ACCESSES BYTES    a task, its accesses, the length of its records
+Each line begins with the offset of its record:
+  0 head T N                        T tasks, N objects
+  18 section TASK ACCESSES BYTES    a task, how many accesses it has, how many bytes their records take
   40 ordering 0 after 1 1           the next access of task 0 comes after access 1 of task 1
-  48 0 2 R 0 7                      access 2 of task 0 reads object 0 and gets 7; W writes
-A read that was recorded without its value has - for it.
+  48 0 2 R 0 7                      access 2 of task 0 is a read of object 0 and got 7; W is a write
+A read that was recorded without its value has - instead of it.
 
 If the input is not a valid recording it lists the records before the one that failed, and then writes
 refused, a number, and the offset of the record that failed. A TASK that the recording does not have
