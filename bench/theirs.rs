@@ -85,7 +85,8 @@ pub fn replay_to_end(bytes: &[u8], memory: &mut [u32]) -> [usize; 6] {
     }
     let played = replayer::replay_to_end(&mut opened.run, bytes, memory, |_, _| {});
     let (finished, stopped) = (played.finished as usize, played.stopped as usize);
-    [0, 0, played.steps, finished, stopped, played.stopped_at]
+    let number = played.number as usize;
+    [number, 0, played.steps, finished, stopped, played.stopped_at]
 }
 
 /// Number, offset, task and steps.
@@ -117,8 +118,8 @@ pub fn finished(run: &replayer::Run, bytes: &[u8]) -> [usize; 2] {
     [number, done.into()]
 }
 
-/// The lowest ready task, stepped again and again, as often as there is room. The order does not look at values: a read that would not
-/// be done finds its record's value in the memory the next time.
+/// The lowest ready task, stepped again and again, as often as there is room. The order does not look at values: a read that is not done
+/// is tried again with its record's value in the memory.
 pub fn schedule(run: &replayer::Run, bytes: &[u8], room: usize) -> Vec<u8> {
     let (mut run, mut tasks) = (run.clone(), Vec::new());
     let mut memory = vec![0; run.objects.min(256)];
@@ -128,11 +129,12 @@ pub fn schedule(run: &replayer::Run, bytes: &[u8], room: usize) -> Vec<u8> {
             break;
         }
         let task = replayer::lowest_ready(word) as usize;
-        let s = replayer::step(&mut run, bytes, &mut memory, task);
+        let mut s = replayer::step(&mut run, bytes, &mut memory, task);
         if s.number == number::READ_DIFFERS {
             memory[half_at(bytes, s.offset + 4)] = word_at(bytes, s.offset + 6);
-            continue;
+            s = replayer::step(&mut run, bytes, &mut memory, task);
         }
+        assert_eq!(s.number, 0, "the step of a ready task");
         tasks.push(task as u8);
     }
     tasks
