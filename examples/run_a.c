@@ -73,8 +73,8 @@ int main(void)
     record(0, 0, WK_SORT_READ, 0);
     record(1, 0, WK_SORT_WRITE, 9);
     size_t size = pack(head);
-    if (size != 98) {
-        fprintf(stderr, "the recording has %zu bytes, not 98\n", size);
+    if (size != 106) {
+        fprintf(stderr, "the recording has %zu bytes, not 106\n", size);
         return 1;
     }
     wk_check(recording, size, answer);

@@ -215,7 +215,7 @@ void wk_finished(const size_t places[WK_PLACES], const uint8_t *bytes, size_t by
 
 /*
  * The order of a replay in which the lowest ready task always goes next: a task a byte, as many as `out` has room for. Hands back how
- * many. The run is not moved. A run that is not sound has none.
+ * many. The run is not moved. A run that is not sound has none. Values play no part: a replay that ends with 19 does not take all of it.
  */
 size_t wk_schedule(const size_t places[WK_PLACES], const uint8_t *bytes, size_t bytes_len, uint8_t *out, size_t out_len);
 
