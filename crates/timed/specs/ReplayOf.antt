@@ -35,14 +35,14 @@ taskNext b x = lowestReady (readyOf (x .run) b .word)
 abbrev pub stepAt : List ℕ → Replayed → Replayed
 stepAt b x = stepped (x .digest) (taskNext b x) (stepOf (x .run) b (x .memory) (taskNext b x))
 
--- the number of its step
-abbrev pub numberNext : List ℕ → Replayed → ℕ
-numberNext b x = stepOf (x .run) b (x .memory) (taskNext b x) .answer .number
+-- the number of the access that its step does, 0 if it is not taken
+abbrev pub accessNext : List ℕ → Replayed → ℕ
+accessNext b x = stepOf (x .run) b (x .memory) (taskNext b x) .answer .access
 
 -- at most n steps
 unfoldable pub stepsIn : ℕ → List ℕ → Replayed → Replayed
 stepsIn zero b x = x
-stepsIn (suc n) b x = cond (eqb (numberNext b x) 0) (stepsIn n b (stepAt b x)) x
+stepsIn (suc n) b x = cond (eqb (accessNext b x) 0) x (stepsIn n b (stepAt b x))
 
 abbrev pub replayOf : List ℕ → List ℕ → Replayed
 replayOf b memory = stepsIn (length b) b (opened (openOf b memory))

@@ -81,7 +81,9 @@ pub extern "C" fn wk_script(
 }
 
 // Opens a recording and steps it, always the lowest ready task, until a step is not taken: none is ready, or the memory differs from a
-// read's record. A step uses up a record, so as many steps as there are bytes are enough.
+// read's record. A step uses up a record, so as many steps as there are bytes are enough. Whether it was taken is asked by the access,
+// which is 0 in every refusal: a refusal's number may come from the bytes, and for the case that it is 0 the compiler would keep a copy
+// of the run.
 #[no_mangle]
 pub extern "C" fn wk_replay(bytes: &[u8], memory: &mut [u32]) -> u64
     ensures { λ r. ⌜ r ≡ replayOf (now (bytes .entry)) (now (memory .entry)) .digest ⌝ }
@@ -94,7 +96,7 @@ pub extern "C" fn wk_replay(bytes: &[u8], memory: &mut [u32]) -> u64
         let w = ready(run, bytes);
         let task = lowest_ready(w.word) as usize;
         let s = replayer::step(run, bytes, memory, task);
-        if s.number != 0 {
+        if s.access == 0 {
             return digest;
         }
         digest = mixed(digest, step_word(task, s.kind, s.object, s.value, s.access));

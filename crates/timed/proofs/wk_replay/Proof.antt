@@ -3,8 +3,8 @@ use Prim.Native.Nat.{_-_, _≤_, _<_}
 use native.Mathlib.Omega.{arith}
 use denote.Ref.{now}
 use lib.ListN.{length}
-use Rattle.timed.specs.ReplayOf.{Replayed, numberNext, stepsIn, replayOf}
-use Rattle.timed.specs.Laws.LoopsCode.{steps-over, steps-stop, steps-more, step-number, step-kept, step-turn}
+use Rattle.timed.specs.ReplayOf.{Replayed, accessNext, stepsIn, replayOf}
+use Rattle.timed.specs.Laws.LoopsCode.{steps-over, steps-stop, steps-more, step-access, step-kept, step-turn}
 use borrow.Author.Needs.{needs}
 use Rattle.timed.proofs.wk_replay.Statement.{statement}
 use Rattle.timed.proofs.wk_replay.Tie as tie
@@ -41,11 +41,11 @@ step-requires c κs = search needs
 same-length : tie.Need-same-length Inv-loop μ-loop
 same-length c = search needs
 
--- the number of the step's answer
-number-is : (c : tie.After-step Inv-loop μ-loop) →
+-- the access of the step's answer
+access-is : (c : tie.After-step Inv-loop μ-loop) →
     let l = c .before .before .before .before .before .loop in
-    c .step .result .number ≡ numberNext (now (c .before .before .before .before .before .before .before .before .before .before .before .before .before .before .args .bytes)) (record { run = l .run; memory = l .memory; digest = l .digest })
-number-is c = let l = c .before .before .before .before .before .loop in step-number _ (record { run = l .run; memory = l .memory; digest = l .digest }) _ _ _ (c .before .before .before .ready .ensures) (c .before .before .lowest-ready .ensures) (c .step .ensures .0)
+    c .step .result .access ≡ accessNext (now (c .before .before .before .before .before .before .before .before .before .before .before .before .before .before .args .bytes)) (record { run = l .run; memory = l .memory; digest = l .digest })
+access-is c = let l = c .before .before .before .before .before .loop in step-access _ (record { run = l .run; memory = l .memory; digest = l .digest }) _ _ _ (c .before .before .before .ready .ensures) (c .before .before .lowest-ready .ensures) (c .step .ensures .0)
 
 returns : tie.Need-returns Inv-loop μ-loop
 returns c =
@@ -53,7 +53,7 @@ returns c =
     let b = now (c .before .before .before .before .before .before .before .before .before .before .before .before .before .before .before .before .before .before .args .bytes) in
     let o = c .before .before .before .before .before .before .before .before .before .before .before .before .before .before .«open» .ensures in
     let x : Replayed = record { run = l .run; memory = l .memory; digest = l .digest } in
-    let k : numberNext b x ≡ 0 → ⊥ = λ h. c .if1 .taken (number-is (c .before .before .before .before) ∙ h) in
+    let k : accessNext b x ≡ 0 = sym (access-is (c .before .before .before .before)) ∙ c .if1 .taken in
     let e : x ≡ replayOf b (now (c .before .before .before .before .before .before .before .before .before .before .before .before .before .before .before .before .before .before .args .memory)) = sym (steps-stop b x _ (l .counter) (c .before .before .before .before .before .before .before .before .loop-test .taken) k) ∙ (rw (o .0, o .1) at (l .inv .3)) in
     (ap (λ (y : Replayed). y .digest) e, step-kept b x _ _ _ (c .before .before .before .before .before .before .before .ready .ensures) (c .before .before .before .before .before .before .lowest-ready .ensures) (c .before .before .before .before .step .ensures .1) k ∙ ap (λ (y : Replayed). y .memory) e)
 
@@ -75,7 +75,7 @@ loop-again c =
     let b = now (c .before .before .before .before .before .before .before .before .before .before .before .before .before .before .before .before .before .before .before .before .before .args .bytes) in
     let x : Replayed = record { run = l .run; memory = l .memory; digest = l .digest } in
     let s = c .before .before .before .before .before .before .before .step in
-    let k : numberNext b x ≡ 0 = sym (number-is (c .before .before .before .before .before .before .before)) ∙ c .before .before .before .if1 .left in (
+    let k : accessNext b x ≡ 0 → ⊥ = λ h. c .before .before .before .if1 .left (access-is (c .before .before .before .before .before .before .before) ∙ h) in (
       omega (arith, c .before .before .before .before .before .before .before .before .before .before .before .loop-test .taken),
       l .inv .1,
       search needs,

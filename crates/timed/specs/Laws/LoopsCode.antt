@@ -12,10 +12,10 @@ use Rattle.replayer.specs.declared.ReadyWord.{ReadyWord}
 use Rattle.replayer.specs.declared.Stepped.{Stepped}
 use Rattle.replayer.specs.ReadyOf.{readyOf}
 use Rattle.replayer.specs.StepOf.{stepOf}
-use Rattle.replayer.specs.Laws.StepOf.{refused-stays}
+use Rattle.replayer.specs.Laws.StepOf.{undone-stays}
 use Rattle.replayer.specs.Word.{lowestReady}
 use Rattle.timed.specs.Digest.{mixedIn, accessWord, stepWord}
-use Rattle.timed.specs.ReplayOf.{Replayed, taskNext, numberNext, stepAt, stepsIn}
+use Rattle.timed.specs.ReplayOf.{Replayed, taskNext, accessNext, stepAt, stepsIn}
 use Rattle.timed.specs.ScriptOf.{Scripted, accessAt, accessesTo}
 
 pub access-more : (script : List ℕ) (n : ℕ) (x y : Scripted) → y ≡ accessesTo script n x → accessAt script n y ≡ accessesTo script (n + 1) x
@@ -28,22 +28,22 @@ module _ (b : List ℕ) (x : Replayed) (size i : ℕ) where
   steps-over h = let e : size - i ≡ 0 = omega arith in rw e
 
   module _ (h : i < size) where
-    pub steps-stop : (numberNext b x ≡ 0 → ⊥) → stepsIn (size - i) b x ≡ x
+    pub steps-stop : accessNext b x ≡ 0 → stepsIn (size - i) b x ≡ x
     unfolding stepsIn
-    steps-stop k = let e : size - i ≡ suc (size - (i + 1)) = omega arith in rw (e, ne-eqb (numberNext b x) 0 k)
+    steps-stop k = let e : size - i ≡ suc (size - (i + 1)) = omega arith in rw (e, eq-eqb (accessNext b x) 0 k)
 
-    pub steps-more : numberNext b x ≡ 0 → stepsIn (size - (i + 1)) b (stepAt b x) ≡ stepsIn (size - i) b x
+    pub steps-more : (accessNext b x ≡ 0 → ⊥) → stepsIn (size - (i + 1)) b (stepAt b x) ≡ stepsIn (size - i) b x
     unfolding stepsIn
-    steps-more k = let e : size - i ≡ suc (size - (i + 1)) = omega arith in rw (e, eq-eqb (numberNext b x) 0 k)
+    steps-more k = let e : size - i ≡ suc (size - (i + 1)) = omega arith in rw (e, ne-eqb (accessNext b x) 0 k)
 
--- the answer's number, and the memory if the step is not taken
-pub step-number : (b : List ℕ) (x : Replayed) (ready : ReadyWord) (task : ℕ) (a : Stepped) → ready ≡ readyOf (x .run) b → task ≡ lowestReady (ready .word)
-    → a ≡ stepOf (x .run) b (x .memory) task .answer → a .number ≡ numberNext b x
-step-number b x ready task a e t p = rw (p, t, e)
+-- the access of the answer, and the memory if the step is not taken
+pub step-access : (b : List ℕ) (x : Replayed) (ready : ReadyWord) (task : ℕ) (a : Stepped) → ready ≡ readyOf (x .run) b → task ≡ lowestReady (ready .word)
+    → a ≡ stepOf (x .run) b (x .memory) task .answer → a .access ≡ accessNext b x
+step-access b x ready task a e t p = rw (p, t, e)
 
 pub step-kept : (b : List ℕ) (x : Replayed) (ready : ReadyWord) (task : ℕ) (memory : List ℕ) → ready ≡ readyOf (x .run) b → task ≡ lowestReady (ready .word)
-    → memory ≡ stepOf (x .run) b (x .memory) task .memory → (numberNext b x ≡ 0 → ⊥) → memory ≡ x .memory
-step-kept b x ready task memory e t q k = rw (q, t, e) (refused-stays (x .run) b (x .memory) (taskNext b x) k .after)
+    → memory ≡ stepOf (x .run) b (x .memory) task .memory → accessNext b x ≡ 0 → memory ≡ x .memory
+step-kept b x ready task memory e t q k = rw (q, t, e) (undone-stays (x .run) b (x .memory) (taskNext b x) k .after)
 
 -- one pass of the script's loop, and of the replay's, as the code does it
 pub access-turn : (script : List ℕ) (i : ℕ) (start y : Scripted) (task object : ℕ) (a : Accessed) (memory out : List ℕ) (word digest : ℕ) →

@@ -3,7 +3,11 @@ use native.Mathlib.Omega.{arith}
 use Prim.Native.Nat.{_+_}
 use lib.ListN.{length, getD}
 use denote.Ref.{now}
+use mathlib.Core.Bool.{false}
+use Rattle.codec.specs.Number.{differs}
+use Rattle.entries.specs.Reading.{stop}
 use Rattle.pending.specs.declared.Run.{Run}
+use Rattle.replayer.specs.StepOf.{recordAt}
 use Rattle.scheduler.specs.Laws.Columns.{runOf}
 use Rattle.scheduler.specs.Laws.Columns.{columns-back, columns-shaped, columns-place, columns-finished}
 use Rattle.scheduler.specs.Laws.ColumnsCode.{Columned, columned-none}
@@ -106,7 +110,7 @@ array-read-record-at : tie.Need-array-read-record-at Inv-loop μ-loop
 array-read-record-at c = found (c .before .before .before) .is .few
 
 record-at-requires : tie.Need-record-at-requires Inv-loop μ-loop
-record-at-requires c κs = rw (standing (c .before .before .before)) (next-long _ _ _ _ _ (found (c .before .before .before) .is .opens))
+record-at-requires c κs = omega (arith, standing (c .before .before .before), next-long _ _ _ _ _ (found (c .before .before .before) .is .opens))
 
 result-of-requires-2 : tie.Need-result-of-requires-2 Inv-loop μ-loop
 result-of-requires-2 c κs = search needs
@@ -114,11 +118,18 @@ result-of-requires-2 c κs = search needs
 same-length-2 : tie.Need-same-length-2 Inv-loop μ-loop
 same-length-2 c = c .before .before .before .before .before .before .before .before .before .before .before .before .before .before .before .loop .inv .1
 
+-- what a play that is stopped answers
+stops : (c : tie.After-result-of2 Inv-loop μ-loop) →
+    let r = c .before .before .before .before .before .before .before .before .before .before .before .before .before .before .before .before .before .before .before .before .before .before .before .args .run in
+    c .result-of2 .result ≡ record { tasks = r .tasks; objects = r .objects; steps = c .before .before .before .before .before .before .before .before .before .before .before .before .before .before .before .loop .steps; finished = false; stopped = stop differs (c .before .record-at .result) }
+stops c = c .result-of2 .ensures
+
 returns-2 : tie.Need-returns-2 Inv-loop μ-loop
 returns-2 c =
     let f = found (c .before .before .before .before .before) in
-    let g = going-stopped _ _ _ (c .before .before .before .before .before .before .before .before .before .before .before .before .before .before .before .loop .inv .2) _ _ _ (f .is) (sym (c .before .before .before .agrees .ensures) ∙ not-true _ (c .before .before .if1 .taken)) _ (rw (standing (c .before .before .before .before .before)) at (c .before .record-at .ensures)) in
-    (c .result-of2 .ensures ∙ g .0, g .1)
+    let e = ap (recordAt (c .before .before .before .before .before .before .n .given .0 .1 .0)) (standing (c .before .before .before .before .before)) in
+    let g = going-stopped _ _ _ (c .before .before .before .before .before .before .before .before .before .before .before .before .before .before .before .loop .inv .2) _ _ _ (f .is) (sym (c .before .before .before .agrees .ensures) ∙ not-true _ (c .before .before .if1 .taken)) _ (c .before .record-at .ensures ∙ e) in
+    (stops c ∙ g .0, g .1)
 
 perform-requires : tie.Need-perform-requires Inv-loop μ-loop
 perform-requires c κs = search needs
