@@ -109,6 +109,12 @@ mul-record-at c = omega (arith, found (c .before .before .before) .is .few)
 array-read-record-at : tie.Need-array-read-record-at Inv-loop μ-loop
 array-read-record-at c = found (c .before .before .before) .is .few
 
+-- the read's record ends where its task stands
+read-at : (c : tie.After-record-at Inv-loop μ-loop) →
+    let g = c .before .before .before .before .before .n .given .0 in
+    c .record-at .result ≡ recordAt (g .1 .0) (getD (c .before .before .before .before .before .before .before .lowest .last .1 .1 .1 .0) (g .0) 0)
+read-at c = c .record-at .ensures
+
 record-at-requires : tie.Need-record-at-requires Inv-loop μ-loop
 record-at-requires c κs = omega (arith, standing (c .before .before .before), next-long _ _ _ _ _ (found (c .before .before .before) .is .opens))
 
@@ -128,7 +134,7 @@ returns-2 : tie.Need-returns-2 Inv-loop μ-loop
 returns-2 c =
     let f = found (c .before .before .before .before .before) in
     let e = ap (recordAt (c .before .before .before .before .before .before .n .given .0 .1 .0)) (standing (c .before .before .before .before .before)) in
-    let g = going-stopped _ _ _ (c .before .before .before .before .before .before .before .before .before .before .before .before .before .before .before .loop .inv .2) _ _ _ (f .is) (sym (c .before .before .before .agrees .ensures) ∙ not-true _ (c .before .before .if1 .taken)) _ (c .before .record-at .ensures ∙ e) in
+    let g = going-stopped _ _ _ (c .before .before .before .before .before .before .before .before .before .before .before .before .before .before .before .loop .inv .2) _ _ _ (f .is) (sym (c .before .before .before .agrees .ensures) ∙ not-true _ (c .before .before .if1 .taken)) _ (read-at (c .before) ∙ e) in
     (stops c ∙ g .0, g .1)
 
 perform-requires : tie.Need-perform-requires Inv-loop μ-loop
