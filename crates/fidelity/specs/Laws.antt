@@ -10,6 +10,7 @@ pub mod LowestFirst
 pub mod Matches
 pub mod OneCall
 pub mod Packed
+pub mod Paused
 pub mod Playable
 pub mod Replayed
 pub mod RunA

@@ -2,6 +2,7 @@ pub mod Bench
 pub mod Box
 pub mod Fence
 pub mod Filed
+pub mod Paused
 pub mod Playable
 pub mod RunA
 pub mod Statement

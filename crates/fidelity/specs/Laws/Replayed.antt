@@ -14,7 +14,7 @@ use Rattle.reader.specs.Parse.{Parsed}
 use Rattle.history.specs.Entry.{Entry}
 use Rattle.history.specs.History.{History}
 use Rattle.history.specs.Access.{Access}
-use Rattle.history.specs.Laws.Access.{access-of}
+use Rattle.history.specs.Laws.Access.{access-of, access-unique}
 use Rattle.history.specs.Memory.{reference, memoryOf}
 use Rattle.history.specs.Replay.{State, Reply, fresh, shown, tally, recordedOrder}
 use Rattle.history.specs.Ready.{Ready}
@@ -23,7 +23,9 @@ use Rattle.history.specs.Laws.Faithful.{faithful}
 use Rattle.replayer.specs.declared.Stepped.{Stepped}
 use Rattle.pending.specs.Laws.All.{all-test}
 use Rattle.scheduler.specs.Finish.{tasksIn, finishedOf}
-use Rattle.replayer.specs.OpenOf.{openOf}
+use Rattle.replayer.specs.Laws.Frame.{Frame, frame-first}
+use Rattle.replayer.specs.Laws.OpenOf.{opened-stands}
+use Rattle.replayer.specs.OpenOf.{openOf, openedRun}
 use Rattle.replayer.specs.Laws.ReadyOf.{ReadySet, ready-word}
 use Rattle.replayer.specs.ReadyOf.{isReady as isReadyBy, readyOf}
 use Rattle.pending.specs.Run.{taskAt}
@@ -32,11 +34,12 @@ use Rattle.replayer.specs.Word.{hasBit}
 use Rattle.replayer.specs.Laws.Word.{zero-bit}
 use Rattle.scheduler.specs.Laws.Finish.{ready-word-zero}
 use Rattle.fidelity.specs.Bench.{Bench, benchOf, answerOf, stepped, steppedAll, takes as takesBy, tally as tallyBy, tallyOf as tallyOfBy, AllTaken as AllTakenBy}
+use Rattle.fidelity.specs.Filed.{filedOp}
 use Rattle.fidelity.specs.Laws.Matches.{Matches}
 use Rattle.fidelity.specs.Laws.Sim.{Sim, sim-ready}
 use Rattle.fidelity.specs.Laws.SimStep.{Alike, sim-step}
-use Rattle.fidelity.specs.Laws.SimRun.{sim-run, tally-same, tally-of-same, all-taken-same}
-use Rattle.fidelity.specs.Laws.SimStart.{holds, sim-start}
+use Rattle.fidelity.specs.Laws.SimRun.{sim-run, frame-run, tally-same, tally-of-same, all-taken-same}
+use Rattle.fidelity.specs.Laws.SimStart.{holds, opened-is, sim-start}
 use Rattle.fidelity.specs.Statement.{Shows, RefusedBy}
 
 act-of : {r s : Reply} → some r ≡ some s → r .act ≡ s .act
@@ -64,19 +67,25 @@ module _ (start : ℕ → ℕ) (h : History) (bytes : List ℕ) (p : Parsed) (m 
   ideal : Faithful start h
   ideal = faithful (m .sound)
 
-  sim : (steps : List ℕ) → Sim start h bytes tasks objects (after start h steps) (steppedAll bytes first steps)
+  pub sim : (steps : List ℕ) → Sim start h bytes tasks objects (after start h steps) (steppedAll bytes first steps)
   sim steps = sim-run start h bytes tasks objects (holds start h bytes p m) (fresh start) first (sim-start start h bytes p m memory z) steps
 
   alike : (steps : List ℕ) (t : ℕ) → Alike start h bytes tasks objects (after start h steps) (steppedAll bytes first steps) t
   alike steps t = sim-step start h bytes tasks objects (holds start h bytes p m) (after start h steps) (steppedAll bytes first steps) (sim steps) t
 
   -- the accesses done on the bench are those done in the history's replay
-  done-same : (steps : List ℕ) → (λ t. tallyOfBy t bytes first steps) ≡ after start h steps .done
+  pub done-same : (steps : List ℕ) → (λ t. tallyOfBy t bytes first steps) ≡ after start h steps .done
   done-same steps = fun-ext (λ t. tally-of-same start h bytes tasks objects (holds start h bytes p m) t (fresh start) first (sim-start start h bytes p m memory z) steps
       ∙ sym (ideal .done-is-tally steps t))
 
   counts-same : (steps : List ℕ) → tallyBy bytes first steps ≡ tally h (fresh start) steps
   counts-same steps = tally-same start h bytes tasks objects (holds start h bytes p m) (fresh start) first (sim-start start h bytes p m memory z) steps
+
+  -- what the steps leave alone in the run
+  pub framed : (steps : List ℕ) → Frame (openedRun p) (steppedAll bytes first steps .run)
+  framed steps =
+      frame-run start h bytes tasks objects (holds start h bytes p m) (openedRun p) (fresh start) first (sim-start start h bytes p m memory z)
+      (rw (opened-is start h bytes p m memory z) (frame-first (openedRun p) (opened-stands bytes p (m .reads) .shaped))) steps
 
   pub taken-when-ready : (steps : List ℕ) (t : ℕ) → (takesBy bytes (steppedAll bytes first steps) t ≡ true) ↔ Ready h (λ u. tallyOfBy u bytes first steps) t
   taken-when-ready steps t = rw (done-same steps, alike steps t .same) (ideal .taken-when-ready steps t)
@@ -95,6 +104,17 @@ module _ (start : ℕ → ℕ) (h : History) (bytes : List ℕ) (p : Parsed) (m 
       let (f, access, replies) = ideal .answers-recorded steps t (sym (a .same) ∙ y) in
       let v : shown (e .act) (s .memory) ≡ f .act = act-of (sym (w .replies) ∙ replies) in
       rw d (f, access, w .number, rw v at (w .shows))
+
+  -- the rest of a taken step's answer
+  pub record Answered (steps : List ℕ) (t : ℕ) : Type 0 where
+    pub kind : (e : Entry) → Access h t (suc (tallyOfBy t bytes first steps)) e → answerOf bytes (steppedAll bytes first steps) t .kind ≡ filedOp (e .act) .kind
+    pub offset : answerOf bytes (steppedAll bytes first steps) t .offset ≡ 0
+
+  pub kind-recorded : (steps : List ℕ) (t : ℕ) → takesBy bytes (steppedAll bytes first steps) t ≡ true → Answered steps t
+  kind-recorded steps t y =
+      let d : tallyOfBy t bytes first steps ≡ after start h steps .done t = ap (λ (f : ℕ → ℕ). f t) (done-same steps) in
+      let (e, w) = alike steps t .played y in
+      record { kind = λ f a. w .kind ∙ ap (λ (g : Entry). filedOp (g .act) .kind) (access-unique (w .access) (rw d at a)); offset = w .offset }
 
   -- the bench's run is sound after any steps, so its ready word gives the ready tasks
   word : (steps : List ℕ) → ReadySet (steppedAll bytes first steps .run) bytes

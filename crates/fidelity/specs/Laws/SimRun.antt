@@ -1,10 +1,16 @@
 -- Any list of steps over bytes goes as in the history's replay: the same steps are taken, with the same counts.
+use mathlib.Core.Bool.{Bool, _&&_}
 use mathlib.Core.List.{List, [], _∷_}
-use mathlib.Core.Path.{_≡_, refl, _∙_}
+use mathlib.Core.Path.{_≡_, refl, sym, ap, _∙_}
 use Prim.Native.Nat.{ℕ}
+use native.Mathlib.Omega.{arith}
+use lib.Dec.{eqb}
+use Rattle.codec.specs.Bit.{bit}
 use Rattle.history.specs.History.{History}
-use Rattle.history.specs.Replay.{State, step, run, tally, tallyOf, AllTaken}
-use Rattle.fidelity.specs.Bench.{Bench, stepped, steppedAll, tally as tallyBy, tallyOf as tallyOfBy, AllTaken as AllTakenBy}
+use Rattle.history.specs.Replay.{State, step, takes, run, tally, tallyOf, AllTaken}
+use Rattle.pending.specs.declared.Run.{Run}
+use Rattle.replayer.specs.Laws.Frame.{Frame, frame-step}
+use Rattle.fidelity.specs.Bench.{Bench, stepped, steppedAll, takes as takesBy, tally as tallyBy, tallyOf as tallyOfBy, AllTaken as AllTakenBy}
 use Rattle.fidelity.specs.Laws.Sim.{Sim}
 use Rattle.fidelity.specs.Laws.SimStep.{Holds, sim-step}
 
@@ -13,6 +19,12 @@ module _ (start : ℕ → ℕ) (h : History) (bytes : List ℕ) (tasks objects :
   unfolding run steppedAll
   sim-run s b i [] = i
   sim-run s b i (t ∷ steps) = sim-run (step h s t) (stepped bytes b t) (sim-step start h bytes tasks objects holds s b i t .sim) steps
+
+  pub frame-run : (from : Run) (s : State) (b : Bench) → Sim start h bytes tasks objects s b → Frame from (b .run) → (steps : List ℕ) → Frame from (steppedAll bytes b steps .run)
+  unfolding steppedAll
+  frame-run from s b i f [] = f
+  frame-run from s b i f (t ∷ steps) = frame-run from (step h s t) (stepped bytes b t) (sim-step start h bytes tasks objects holds s b i t .sim)
+      (frame-step from (b .run) bytes (b .memory) t f (i .sound) (i .entries ∙ sym (i .objects-same))) steps
 
   pub tally-same : (s : State) (b : Bench) → Sim start h bytes tasks objects s b → (steps : List ℕ) → tallyBy bytes b steps ≡ tally h s steps
   unfolding tally tallyBy
@@ -26,7 +38,8 @@ module _ (start : ℕ → ℕ) (h : History) (bytes : List ℕ) (tasks objects :
   tally-of-same u s b i [] = refl
   tally-of-same u s b i (t ∷ steps) =
       let a = sim-step start h bytes tasks objects holds s b i t in
-      rw (a .same, tally-of-same u (step h s t) (stepped bytes b t) (a .sim) steps)
+      let e : bit (takesBy bytes b t && eqb t u) ≡ bit (takes h s t && eqb t u) = ap (λ (x : Bool). bit (x && eqb t u)) (a .same) in
+      omega (arith, e, tally-of-same u (step h s t) (stepped bytes b t) (a .sim) steps)
 
   pub all-taken-same : (s : State) (b : Bench) → Sim start h bytes tasks objects s b → (steps : List ℕ) → AllTaken h s steps → AllTakenBy bytes b steps
   unfolding AllTaken AllTakenBy

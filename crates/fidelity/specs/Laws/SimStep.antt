@@ -76,6 +76,8 @@ pub record Played (h : History) (bytes : List ℕ) (s : State) (b : Bench) (t : 
   pub replies : answer h s t ≡ some (record { number = suc (s .done t); act = shown (e .act) (s .memory) })
   pub number : answerOf bytes b t .access ≡ suc (s .done t)
   pub shows : Shows (answerOf bytes b t) (shown (e .act) (s .memory))
+  pub kind : answerOf bytes b t .kind ≡ filedOp (e .act) .kind
+  pub offset : answerOf bytes b t .offset ≡ 0
 
 pub record Alike (start : ℕ → ℕ) (h : History) (bytes : List ℕ) (tasks objects : ℕ) (s : State) (b : Bench) (t : ℕ) : Type 0 where
   pub same : takesBy bytes b t ≡ takes h s t
@@ -179,6 +181,8 @@ module _ (start : ℕ → ℕ) (h : History) (bytes : List ℕ) (tasks objects :
               number = w .access ∙ (omega (arith, i .done t));
               shows = shows-same (e .act) (b .memory) (s .memory) objects (i .memory) low (holds .recordable (k .access .at)) (answerOf bytes b t)
                   (w .kind ∙ ap (λ (o : Op). o .kind) is) (w .names ∙ ap (λ (o : Op). o .object) is) (w .value ∙ ap (λ (o : Op). valueOf o (b .memory)) is);
+              kind = w .kind ∙ ap (λ (o : Op). o .kind) is;
+              offset = w .offset;
             },
           );
           barred = λ z. absurd (eqb-false _ _ z (w .number));

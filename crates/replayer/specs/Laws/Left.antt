@@ -2,7 +2,7 @@
 -- unchanged by a step of another. The next entry is the first of them.
 use mathlib.Core.Path.{_≡_, refl, sym, ap, _∙_}
 use mathlib.Core.List.{List, [], _∷_}
-use Prim.Native.Nat.{ℕ, _+_, _<_}
+use Prim.Native.Nat.{ℕ, _+_, _≤_, _<_}
 use native.Mathlib.Omega.{arith}
 use lib.ListN.{length, getD, drop}
 use Rattle.codec.specs.Number.{inBody}
@@ -16,7 +16,8 @@ use Rattle.reader.specs.Calls.{noSpan}
 use Rattle.entries.specs.Entry.{entryAt}
 use Rattle.reader.specs.Parse.{Parsed, parse}
 use Rattle.entries.specs.Part.{part}
-use Rattle.entries.specs.Laws.Part.{part-drop}
+use Rattle.entries.specs.Laws.EntryCase.{entry-entered}
+use Rattle.entries.specs.Laws.Part.{part-length, part-drop}
 use Rattle.entries.specs.Reading.{Reading, refused, read, stop, mapped, andThen}
 use Rattle.entries.specs.Recording.{Entry}
 use Rattle.pending.specs.declared.TaskRun.{TaskRun}
@@ -66,6 +67,37 @@ left-first m x b e es h = go (part (x .place) (x .end) b) refl
         let w = first-of m (x .place) e es (part (x .place) (x .end) b) (entryAt m (stop inBody (x .place)) (x .place) (part (x .place) (x .end) b))
         (sym (body-step m (x .place) (part (x .place) (x .end) b) k) ∙ h) in
         record { entry = w .0; rest = rw (part-drop (entryLength e) (x .place) (x .end) b) at (w .1) }
+
+-- with nothing left a task is at its body's end
+left-none : (m : Limits) (x : TaskRun) (b : List ℕ) → x .place ≤ x .end → x .end ≤ length b → LeftOf m x b [] → x .place ≡ x .end
+left-none m x b p e h = go (part (x .place) (x .end) b) refl
+  where
+    none : (l : List ℕ) (y : Reading Entry) → andThen y (λ f. mapped (λ fs. f ∷ fs) (bodyEntries m (x .place + entryLength f) (drop (entryLength f) l))) ≡ read [] → ⊥
+    none l (refused c) k = let z : _≡_ {A = ℕ} 0 1 = cc in omega arith
+    none l (read f) k = some (bodyEntries m (x .place + entryLength f) (drop (entryLength f) l)) k
+      where
+        some : (z : Reading (List Entry)) → mapped (λ fs. f ∷ fs) z ≡ read [] → ⊥
+        some (refused c) q = let z : _≡_ {A = ℕ} 0 1 = cc in omega arith
+        some (read fs) q = let z : _≡_ {A = ℕ} 0 1 = cc in omega arith
+
+    go : (l : List ℕ) → part (x .place) (x .end) b ≡ l → x .place ≡ x .end
+    go [] q = omega (arith, ap length q, part-length (x .place) (x .end) b e)
+    go (c ∷ l) q =
+        let k : 0 < length (part (x .place) (x .end) b) = rw q (omega arith) in
+        absurd (none (part (x .place) (x .end) b) (entryAt m (stop inBody (x .place)) (x .place) (part (x .place) (x .end) b)) (sym (body-step m (x .place) (part (x .place) (x .end) b) k) ∙ h))
+
+-- what is left tells a task's place
+pub left-place : (es : List Entry) (m : Limits) (x y : TaskRun) (b : List ℕ) → x .end ≡ y .end → x .place ≤ x .end → y .place ≤ y .end → x .end ≤ length b
+    → LeftOf m x b es → LeftOf m y b es → x .place ≡ y .place
+left-place [] m x y b e p q l h k = omega (arith, left-none m x b p l h, left-none m y b q (omega arith) k)
+left-place (f ∷ es) m x y b e p q l h k =
+    let a = left-first m x b f es h in
+    let c = left-first m y b f es k in
+    let v = entry-entered m _ _ _ f (a .entry) .within in
+    let w = entry-entered m _ _ _ f (c .entry) .within in
+    let i = left-place es m (advanced x (x .place + entryLength f)) (advanced y (y .place + entryLength f)) b e
+    (omega (arith, v, part-length (x .place) (x .end) b l)) (omega (arith, w, part-length (y .place) (y .end) b (omega arith))) l (a .rest) (c .rest) in
+    omega (arith, i)
 
 module _ (r : Run) (b : List ℕ) (t : ℕ) where
   -- the next entry is the first that is left
