@@ -9,6 +9,7 @@ pub mod LeftOver
 pub mod LowestFirst
 pub mod Matches
 pub mod OneCall
+pub mod OnePlace
 pub mod Packed
 pub mod Paused
 pub mod Playable

@@ -11,6 +11,8 @@ use libc::STDOUT_FILENO;
 use lines::fields::NONE;
 use lines::fields::field;
 
+pub mod pausing;
+
 // The input is at the front of the buffer, `count` bytes. If `read` is false there is nothing to work on, and the reason has already been
 // written.
 pub struct Input {
@@ -88,7 +90,7 @@ fn from_standard(program: &[u8], expected: &[u8], buffer: &mut [u8]) -> Input
 }
 
 // Writes how the program is called; `options` names what it takes before the file.
-fn put_usage(fd: i32, program: &[u8], options: &[u8]) {
+pub(crate) fn put_usage(fd: i32, program: &[u8], options: &[u8]) {
     io::write_all(fd, b"usage: ");
     io::write_all(fd, program);
     io::write_all(fd, options);
@@ -104,7 +106,7 @@ fn misused(program: &[u8], options: &[u8]) -> Input
 }
 
 // Whether a word begins as an option does.
-fn is_option(word: &[u8]) -> bool {
+pub(crate) fn is_option(word: &[u8]) -> bool {
     if word.len() == 0 {
         return false;
     }
@@ -136,8 +138,8 @@ fn from_word(
     from_file(program, word, buffer)
 }
 
-// Follows the argument at an index, the last.
-fn from_argument(
+// Follows the argument at an index.
+pub(crate) fn from_argument(
     at: usize,
     program: &[u8],
     options: &[u8],
@@ -157,7 +159,7 @@ fn from_argument(
 }
 
 // Reads what the arguments from `at` on name: at most one of them.
-fn from_rest(
+pub(crate) fn from_rest(
     at: usize,
     program: &[u8],
     options: &[u8],

@@ -2,6 +2,7 @@
 pub mod BothProved
 pub mod ListedProved
 pub mod Numbered
+pub mod PausedProved
 pub mod PlayableProved
 pub mod Ran
 pub mod WholeAnswer

@@ -1,5 +1,6 @@
 pub mod Both
 pub mod Listed
+pub mod Paused
 pub mod Playable
 pub mod Wanted
 pub mod WholeRecording

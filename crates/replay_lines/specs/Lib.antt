@@ -1,3 +1,4 @@
+pub mod Block
 pub mod Limits
 pub mod Lines
 pub mod Streams

@@ -13,6 +13,8 @@ use text::put_bytes;
 use text::put_field;
 use text::put_number;
 
+pub mod block;
+
 // The most bytes that a recording can have which a program takes.
 pub const LONGEST: usize = 65536;
 

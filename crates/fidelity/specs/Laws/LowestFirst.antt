@@ -3,8 +3,8 @@
 use mathlib.Core.Bool.{true, false}
 use mathlib.Core.List.{List, [], _∷_}
 use mathlib.Core.Logic.{inl, inr}
-use mathlib.Core.Path.{_≡_, refl, sym, ap, _∙_}
-use Prim.Native.Nat.{ℕ}
+use mathlib.Core.Path.{_≡_, refl, sym, ap, subst, _∙_}
+use Prim.Native.Nat.{ℕ, _+_}
 use native.Mathlib.Omega.{arith}
 use borrow.Author.Tests.{eq-eqb, ne-eqb}
 use lib.Dec.{eqb}
@@ -16,11 +16,12 @@ use Rattle.reader.specs.Parse.{Parsed, parse}
 use Rattle.replayer.specs.Laws.OpenOf.{opened-stands, open-accepts}
 use Rattle.replayer.specs.OpenOf.{openedRun, openOf}
 use Rattle.replayer.specs.ReadyOf.{readyOf}
-use Rattle.scheduler.specs.Finish.{Play, wordAt, taskNext, steppedBy, finishOf, finishedOf}
+use Rattle.replayer.specs.StepOf.{stepOf}
+use Rattle.scheduler.specs.Finish.{Play, wordAt, taskNext, takesStep, steppedBy, finishOf, finishedOf}
 use Rattle.scheduler.specs.Laws.Finish.{Playing, none-ready, stopped, finish-ends}
 use Rattle.scheduler.specs.Laws.Schedule.{AllTaken, schedule-finish, finish-steps, schedule-taken, schedule-settled}
 use Rattle.scheduler.specs.Schedule.{scheduleOf, settledOf, playedBy}
-use Rattle.fidelity.specs.Bench.{Bench, benchOf, answerOf, steppedAll, tally}
+use Rattle.fidelity.specs.Bench.{Bench, benchOf, answerOf, steppedAll, takes, tally}
 use Rattle.fidelity.specs.Box.{Opening, Asked, recorded, recordingOf, recordingBy}
 use Rattle.fidelity.specs.Laws.BoxMatches.{owner-each}
 use Rattle.fidelity.specs.Laws.Theorem.{demand-3, run-finished}
@@ -37,6 +38,11 @@ taken-tally : (b : List ℕ) (x : Play) (steps : List ℕ) → AllTaken b x step
 unfolding AllTaken tally
 taken-tally b x [] w = refl
 taken-tally b x (t ∷ steps) w = rw (eq-eqb _ _ (w .0)) (omega (arith, taken-tally b (steppedBy b x t) steps (w .1)))
+
+play-tally : (b : List ℕ) (x : Play) (steps : List ℕ) → AllTaken b x steps → playedBy b x steps .steps ≡ x .steps + tally b (record { run = x .run; memory = x .memory }) steps
+unfolding playedBy AllTaken tally
+play-tally b x [] w = omega arith
+play-tally b x (t ∷ steps) w = rw (eq-eqb _ _ (w .0)) (omega (arith, play-tally b (steppedBy b x t) steps (w .1)))
 
 -- 19 is none of the numbers of a box's recording
 not-differs : (n : ℕ) → n ≡ differs → (eqb n 0 ≡ false → RefusedBy n) → ⊥
@@ -68,8 +74,18 @@ module _ (o : Opening) (asked : List Asked) (outs : ℕ → List ℕ) (lent : Li
   box-bench = rw opens
 
   -- the bench after taken steps
-  bench-after : (ts : List ℕ) → AllTaken b start ts → record { run = playedBy b start ts .run; memory = playedBy b start ts .memory } ≡ after o asked outs lent ts
+  pub bench-after : (ts : List ℕ) → AllTaken b start ts → record { run = playedBy b start ts .run; memory = playedBy b start ts .memory } ≡ after o asked outs lent ts
   bench-after ts w = play-bench b start ts w ∙ ap (λ (x : Bench). steppedAll b x ts) (sym box-bench)
+
+  -- each of them is counted
+  pub box-counts : (ts : List ℕ) → AllTaken b start ts → playedBy b start ts .steps ≡ tally b (benchOf b lent) ts
+  box-counts ts w = rw box-bench (omega (arith, play-tally b start ts w))
+
+  -- a step after them that is not taken gives 5, 15 or 16
+  pub box-refused : (ts : List ℕ) → AllTaken b start ts → (t : ℕ) → takesStep b (playedBy b start ts) t ≡ false
+      → RefusedBy (stepOf (playedBy b start ts .run) b (playedBy b start ts .memory) t .answer .number)
+  box-refused ts w t =
+      subst (λ (x : Bench). takes b x t ≡ false → RefusedBy (answerOf b x t .number)) (sym (bench-after ts w)) (demand-3 o asked outs lent a .refused-by ts t)
 
   -- no 19 stops the play, so no task is ready at its end
   box-stops : wordAt b (finishOf b start) ≡ 0
@@ -77,9 +93,7 @@ module _ (o : Opening) (asked : List Asked) (outs : ℕ → List ℕ) (lent : Li
     | none-ready z ↦ z
     | stopped op next d ↦
         let s = finish-steps b start box-playing in
-        let x : record { run = finishOf b start .run; memory = finishOf b start .memory } ≡ after o asked outs lent (s .steps) = rw (s .leads) at (bench-after (s .steps) (s .all)) in
-        let n : answerOf b (after o asked outs lent (s .steps)) (taskNext b (finishOf b start)) .number ≡ differs = ap (λ (y : Bench). answerOf b y (taskNext b (finishOf b start)) .number) (sym x) ∙ d .number in
-        absurd (not-differs _ n (demand-3 o asked outs lent a .refused-by (s .steps) (taskNext b (finishOf b start))))
+        absurd (not-differs _ (d .number) (rw (s .leads) at (box-refused (s .steps) (s .all) (taskNext b (finishOf b start)))))
   ]
 
   pub box-taken : AllTaken b start steps

@@ -3,16 +3,15 @@ use mathlib.Core.Bool.{true}
 use mathlib.Core.List.{List, [], _∷_}
 use mathlib.Core.Path.{_≡_, refl, sym, ap, _∙_, fun-ext}
 use Prim.Native.Nat.{ℕ, suc}
-use native.Mathlib.Omega.{arith}
 use borrow.Author.Tests.{eqb-true}
-use lib.ListN.{length}
 use lib.Seq.{ext-getD}
-use Rattle.history.specs.Access.{Access}
-use Rattle.history.specs.Entry.{Act, Entry, read, write, acquire}
+use Rattle.history.specs.Entry.{Act, read, write, acquire}
 use Rattle.history.specs.Faithful.{after as afterIn}
 use Rattle.history.specs.History.{History}
 use Rattle.history.specs.Laws.Access.{access-unique}
+use Rattle.history.specs.Laws.Done.{entriesIn}
 use Rattle.history.specs.Laws.Faithful.{faithful}
+use Rattle.history.specs.Laws.Run.{tally-after}
 use Rattle.pending.specs.declared.Run.{Run}
 use Rattle.playability.specs.Order.{times}
 use Rattle.reader.specs.Parse.{Parsed}
@@ -21,16 +20,15 @@ use Rattle.replayer.specs.InPlace.{shownOf}
 use Rattle.replayer.specs.Laws.Frame.{frame-same}
 use Rattle.replayer.specs.OpenOf.{openOf, openedRun}
 use Rattle.replayer.specs.ReadyOf.{readyOf}
-use Rattle.fidelity.specs.Bench.{Bench, benchOf, answerOf, stepped, steppedAll, takes, tallyOf, AllTaken}
+use Rattle.fidelity.specs.Bench.{Bench, benchOf, answerOf, stepped, steppedAll, takes, tally, tallyOf, AllTaken}
 use Rattle.fidelity.specs.Box.{Opening, Asked, recorded, recordingOf}
-use Rattle.fidelity.specs.Filed.{filedOp}
 use Rattle.fidelity.specs.Laws.BoxMatches.{parsedBy, box-matches}
 use Rattle.fidelity.specs.Laws.FirstBox.{startOf}
 use Rattle.fidelity.specs.Laws.LeftOver.{leftOf}
 use Rattle.fidelity.specs.Laws.Matches.{Matches}
-use Rattle.fidelity.specs.Laws.Replayed.{sim, framed, done-same, kind-recorded, answers-recorded}
-use Rattle.fidelity.specs.Paused.{Paused, Same}
-use Rattle.fidelity.specs.Statement.{Accepted, Shows, after}
+use Rattle.fidelity.specs.Laws.Replayed.{sim, framed, done-same, counts-same, kind-recorded, answers-recorded}
+use Rattle.fidelity.specs.Paused.{Paused, AtOnePlace, Same}
+use Rattle.fidelity.specs.Statement.{Accepted, Shows}
 
 -- the steps of an allowed order are all counted
 taken-times : (u : ℕ) (bytes : List ℕ) (b : Bench) (steps : List ℕ) → AllTaken bytes b steps → tallyOf u bytes b steps ≡ times u steps
@@ -68,6 +66,15 @@ module _ (start : ℕ → ℕ) (h : History) (bytes : List ℕ) (p : Parsed) (m 
         (λ t l. i .done t ∙ same-done t ∙ sym (j .done t))
         (λ t l. record { entries = leftOf t (afterIn start h steps .done t) h; one = i .left t l; other = rw (same-done t) (j .left t l) })
 
+    -- the number of steps taken in all depends only on how many each task has taken
+    pub tally-same : tally bytes (benchOf bytes one) steps ≡ tally bytes (benchOf bytes other) others
+    tally-same =
+        counts-same start h bytes p m one z steps
+        ∙ sym (tally-after start h steps)
+        ∙ ap (λ (d : ℕ → ℕ). entriesIn d h) (fun-ext same-done)
+        ∙ tally-after start h others
+        ∙ sym (counts-same start h bytes p m other y others)
+
     pub memory-same : here .memory ≡ there .memory
     memory-same =
         let i = sim start h bytes p m one z steps in
@@ -91,9 +98,7 @@ module _ (o : Opening) (asked : List Asked) (outs : ℕ → List ℕ) (one other
   matches : Matches (startOf o) (recorded o asked) (recordingOf o asked outs) (parsedBy o asked)
   matches = box-matches o (a .opened) asked outs (a .packed)
 
-  same : (steps others : List ℕ)
-      → ((t : ℕ) → tallyOf t (recordingOf o asked outs) (benchOf (recordingOf o asked outs) one) steps ≡ tallyOf t (recordingOf o asked outs) (benchOf (recordingOf o asked outs) other) others)
-      → Same o asked outs one other steps others
+  same : (steps others : List ℕ) → AtOnePlace o asked outs one other steps others → Same o asked outs one other steps others
   same steps others d =
       let r = run-same (startOf o) (recorded o asked) (recordingOf o asked outs) (parsedBy o asked) matches one other (a .replayed) (b .replayed) steps others d in
       record {
@@ -101,6 +106,10 @@ module _ (o : Opening) (asked : List Asked) (outs : ℕ → List ℕ) (one other
         ready = ap (λ (x : Run). readyOf x (recordingOf o asked outs)) r;
         run = r;
       }
+
+  pub same-tally : (steps others : List ℕ) → AtOnePlace o asked outs one other steps others
+      → tally (recordingOf o asked outs) (benchOf (recordingOf o asked outs) one) steps ≡ tally (recordingOf o asked outs) (benchOf (recordingOf o asked outs) other) others
+  same-tally = tally-same (startOf o) (recorded o asked) (recordingOf o asked outs) (parsedBy o asked) matches one other (a .replayed) (b .replayed)
 
   pub paused : Paused o asked outs one other
   paused = record {

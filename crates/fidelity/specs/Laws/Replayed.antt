@@ -78,7 +78,7 @@ module _ (start : ℕ → ℕ) (h : History) (bytes : List ℕ) (p : Parsed) (m 
   done-same steps = fun-ext (λ t. tally-of-same start h bytes tasks objects (holds start h bytes p m) t (fresh start) first (sim-start start h bytes p m memory z) steps
       ∙ sym (ideal .done-is-tally steps t))
 
-  counts-same : (steps : List ℕ) → tallyBy bytes first steps ≡ tally h (fresh start) steps
+  pub counts-same : (steps : List ℕ) → tallyBy bytes first steps ≡ tally h (fresh start) steps
   counts-same steps = tally-same start h bytes tasks objects (holds start h bytes p m) (fresh start) first (sim-start start h bytes p m memory z) steps
 
   -- what the steps leave alone in the run

@@ -2,10 +2,11 @@
 -- section and no replay opening is refused.
 use mathlib.Core.Bool.{true}
 use mathlib.Core.List.{List}
-use mathlib.Core.Path.{_≡_, refl, sym, _∙_}
+use mathlib.Core.Path.{_≡_, refl, sym, ap, _∙_}
 use Prim.Native.Nat.{ℕ, _+_, _≤_, _<_}
 use lib.ListN.{length}
 use lib.Seq.{ext-getD}
+use Rattle.pending.specs.Run.{doneOf}
 use Rattle.reader.specs.Calls.{checkedOf}
 use Rattle.scheduler.specs.Finish.{finishedOf}
 use Rattle.replayer.specs.Laws.OpenOf.{open-accepts}
@@ -15,8 +16,8 @@ use Rattle.fidelity.specs.Laws.BoxMatches.{parsedBy, owner-each, box-mem
 use Rattle.fidelity.specs.Laws.BoxReference.{answers-reference, memory-reference}
 use Rattle.fidelity.specs.Laws.FirstBox.{startOf}
 use Rattle.fidelity.specs.Laws.Matches.{Matches}
-use Rattle.fidelity.specs.Laws.Replayed.{taken-when-ready, refused-changes-nothing, refused-by, answers-recorded, word-sound, word-ready, memory-of-writes, never-more, stops-at-end, end-memory, end-finished, memory-entries, recorded-order}
-use Rattle.fidelity.specs.Statement.{Accepted, after, Faithful}
+use Rattle.fidelity.specs.Laws.Replayed.{sim, done-same, taken-when-ready, refused-changes-nothing, refused-by, answers-recorded, word-sound, word-ready, memory-of-writes, never-more, stops-at-end, end-memory, end-finished, memory-entries, recorded-order}
+use Rattle.fidelity.specs.Statement.{Accepted, after, done, Faithful}
 
 module _ (o : Opening) (asked : List Asked) (outs : ℕ → List ℕ) (memory : List ℕ) (a : Accepted o asked outs memory) where
   matches : Matches (startOf o) (recorded o asked) (recordingOf o asked outs) (parsedBy o asked)
@@ -38,6 +39,12 @@ module _ (o : Opening) (asked : List Asked) (outs : ℕ → List ℕ) (memory : 
   pub run-finished : (steps : List ℕ) → tally (recordingOf o asked outs) (benchOf (recordingOf o asked outs) memory) steps ≡ length (recorded o asked)
       → finishedOf (after o asked outs memory steps .run) ≡ true
   run-finished steps e = end-finished (startOf o) (recorded o asked) (recordingOf o asked outs) (parsedBy o asked) matches memory (a .replayed) steps e
+
+  -- what a task has done is in the run
+  pub run-done : (steps : List ℕ) (t : ℕ) → doneOf (after o asked outs memory steps .run .runs) t ≡ done o asked outs memory steps t
+  run-done steps t =
+      sim (startOf o) (recorded o asked) (recordingOf o asked outs) (parsedBy o asked) matches memory (a .replayed) steps .done t
+      ∙ ap (λ (d : ℕ → ℕ). d t) (sym (done-same (startOf o) (recorded o asked) (recordingOf o asked outs) (parsedBy o asked) matches memory (a .replayed) steps))
 
   pub demand-3 : Faithful o asked outs memory
   unfolding checkedOf

@@ -1,0 +1,106 @@
+-- Laws of `Order`: how many tasks a text can give, and that each of them is a number.
+use mathlib.Core.Path.{_≡_, refl}
+use mathlib.Core.List.{List, [], _∷_}
+use Prim.Native.Nat.{ℕ, zero, suc, _+_, _*_, _<_, _≤_}
+use native.Mathlib.Omega.{arith}
+use lib.Dec.{eqb}
+use lib.ListN.{length, getD}
+use Rattle.bytes.specs.Bytes.{indexOf}
+use Rattle.codec.specs.Laws.Decide.{passes, fails, split}
+use Rattle.lines.specs.Fields.{fieldsOf}
+use Rattle.lines.specs.Laws.OrderCode.{row-one}
+use Rattle.lines.specs.Lines.{Line, linesOf, isPassed, numbered}
+use Rattle.lines.specs.Number.{none}
+use Rattle.lines.specs.Order.{isYes, behindYes, wrongIn, wrongLine, tasksIn, tasksOf}
+use Rattle.lines.specs.Rows.{isRow}
+use Rattle.lines.specs.Words.{front, bareOf, wordsIn, piecesOf, filledOf}
+
+-- the bytes of some lines, each with its newline
+bytesOf : List (List ℕ) → ℕ
+bytesOf [] = 0
+bytesOf (l ∷ ls) = length l + 1 + bytesOf ls
+
+bytes-front : (b : ℕ) (ls : List (List ℕ)) (n : ℕ) → bytesOf ls ≤ n + 1 → bytesOf (front b ls) ≤ suc n + 1
+unfolding front bytesOf
+bytes-front b [] n h = omega arith
+bytes-front b (l ∷ ls) n h = omega arith
+
+bytes-within : (text : List ℕ) → bytesOf (linesOf text) ≤ length text + 1
+unfolding linesOf bytesOf
+bytes-within [] = omega arith
+bytes-within (b ∷ bs) = elim (split (eqb b 10)) [
+  | passes p ↦ rw p (omega (arith, bytes-within bs))
+  | fails p ↦ rw p (bytes-front b (linesOf bs) (length bs) (bytes-within bs))
+]
+
+-- a line that is not skipped has a byte
+numbered-few : (n : ℕ) (ls : List (List ℕ)) → 2 * length (numbered n ls) ≤ bytesOf ls
+unfolding numbered bytesOf bareOf wordsIn piecesOf filledOf indexOf
+numbered-few n [] = omega arith
+numbered-few n ([] ∷ ls) = omega (arith, numbered-few (n + 1) ls)
+numbered-few n ((b ∷ l) ∷ ls) = elim (split (isPassed (b ∷ l))) [
+  | passes p ↦ rw p (omega (arith, numbered-few (n + 1) ls))
+  | fails p ↦ rw p (omega (arith, numbered-few (n + 1) ls))
+]
+
+behind-few : (ls : List Line) → length (behindYes ls) ≤ length ls
+unfolding behindYes
+behind-few [] = omega arith
+behind-few (l ∷ ls) = elim (split (isYes (l .bytes))) [
+  | passes p ↦ rw p (omega arith)
+  | fails p ↦ rw p (omega arith)
+]
+
+tasks-length : (ls : List Line) → length (tasksIn ls) ≡ length ls
+unfolding tasksIn
+tasks-length [] = refl
+tasks-length (l ∷ ls) = omega (arith, tasks-length ls)
+
+pub order-few : (text : List ℕ) → 2 * length (tasksOf text) ≤ length text + 1
+order-few text =
+    let ls = numbered 1 (linesOf text) in
+    omega (arith, tasks-length (behindYes ls), behind-few ls, numbered-few 1 (linesOf text), bytes-within text)
+
+-- every line has this number or a larger one
+NumberedFrom : ℕ → List Line → Type 0
+NumberedFrom n [] = Unit {0}
+NumberedFrom n (l ∷ ls) = (n ≤ l .number) × NumberedFrom n ls
+
+numbered-on : (n m : ℕ) (ls : List (List ℕ)) → n ≤ m → NumberedFrom n (numbered m ls)
+unfolding numbered NumberedFrom
+numbered-on n m [] h = tt
+numbered-on n m (l ∷ ls) h = elim (split (isPassed l)) [
+  | passes p ↦ rw p (numbered-on n (m + 1) ls (omega arith))
+  | fails p ↦ rw p (h, numbered-on n (m + 1) ls (omega arith))
+]
+
+-- the first of the lines from number n on has number n or a larger one
+pub first-from : (n : ℕ) (ls : List (List ℕ)) (l : Line) (rest : List Line) → numbered n ls ≡ l ∷ rest → n ≤ l .number
+unfolding NumberedFrom
+first-from n ls l rest e = (rw e at (numbered-on n n ls (omega arith))) .0
+
+behind-from : (n : ℕ) (ls : List Line) → NumberedFrom n ls → NumberedFrom n (behindYes ls)
+unfolding behindYes NumberedFrom
+behind-from n [] h = tt
+behind-from n (l ∷ ls) h = elim (split (isYes (l .bytes))) [
+  | passes p ↦ rw p (h .1)
+  | fails p ↦ rw p h
+]
+
+tasks-fit : (ls : List Line) → NumberedFrom 1 ls → wrongIn ls ≡ 0 → (i : ℕ) → getD (tasksIn ls) i 0 < none
+unfolding wrongIn tasksIn NumberedFrom
+tasks-fit [] h e i = omega arith
+tasks-fit (l ∷ ls) h e i = elim (split (isRow 1 (fieldsOf (l .bytes)))) [
+  | passes p ↦ each _ (tasksIn ls) (row-one (fieldsOf (l .bytes)) p .1) (tasks-fit ls (h .1) (rw p at e)) i
+  | fails p ↦ absurd (let z : l .number ≡ 0 = rw p at e in let y : ⊥ = omega (arith, h .0) in y)
+]
+  where
+    each : (x : ℕ) (xs : List ℕ) → x < none → ((j : ℕ) → getD xs j 0 < none) → (j : ℕ) → getD (x ∷ xs) j 0 < none
+    each x xs a b zero = a
+    each x xs a b (suc j) = b j
+
+-- line numbers begin at 1, so that the number of a wrong line is never 0
+pub task-fits : (text : List ℕ) → wrongLine text ≡ 0 → (i : ℕ) → getD (tasksOf text) i 0 < 4294967296
+task-fits text e i =
+    let ls = numbered 1 (linesOf text) in
+    tasks-fit (behindYes ls) (behind-from 1 ls (numbered-on 1 1 (linesOf text) (omega arith))) e i

@@ -1,0 +1,175 @@
+-- What is written on both streams, as the code has it, and its cases.
+use mathlib.Core.Path.{_≡_, refl, _∙_}
+use mathlib.Core.Bool.{Bool, true, false}
+use mathlib.Core.List.{List, []}
+use Prim.Native.Nat.{ℕ, _+_, _≤_, _<_}
+use native.Mathlib.Omega.{arith}
+use borrow.Author.Tests.{eq-eqb, ne-eqb, eqb-true, le-leb, lt-leb, lt-ltb, le-ltb}
+use lib.Dec.{eqb}
+use lib.ListN.{length, length-append}
+use Rattle.codec.specs.Field.{Bytes}
+use Rattle.codec.specs.Laws.Decide.{passes, fails, split}
+use Rattle.codec.specs.Limit.{maxTasks}
+use Rattle.codec.specs.Number.{entries as wrongLength}
+use Rattle.entries.specs.Reading.{read}
+use Rattle.lines.specs.Order.{wrongLine, tasksOf}
+use Rattle.reader.specs.declared.layout.Layout.{Layout}
+use Rattle.reader.specs.Laws.Laid.{laid-read}
+use Rattle.reader.specs.Laws.Located.{away, found, located}
+use Rattle.reader.specs.Layout.{layoutOf}
+use Rattle.reader.specs.Parse.{Parsed, parse}
+use Rattle.replayer.specs.Laws.OpenOf.{open-accepts, opened-stands}
+use Rattle.replayer.specs.OpenOf.{openOf}
+use Rattle.replay_lines.specs.declared.Written.{Written}
+use Rattle.replay_lines.specs.Laws.LinesBound.{refusal-few}
+use Rattle.replay_lines.specs.Limits.{longest, mostSteps}
+use Rattle.replay_lines.specs.Lines.{longLine, refusalOf}
+use Rattle.replay_lines.specs.Streams.{Streams}
+use Rattle.pending.specs.declared.Run.{Run}
+use Rattle.pending.specs.Laws.Sound.{sound-facts}
+use Rattle.scheduler.specs.Finish.{leftOver}
+use Rattle.scheduler.specs.Laws.Opened.{opened-left}
+use Rattle.scheduler.specs.Schedule.{scheduleOf}
+use Rattle.text.specs.Appended.{Appended}
+use Rattle.text.specs.Laws.Appended.{nothing, joined}
+use Rattle.text.specs.Laws.Decimal.{decimal-short, field-length}
+use Rattle.transcript.specs.Laws.TextBound.{opened-small}
+use Rattle.waits.specs.Differ.{differOf}
+use Rattle.waits.specs.Waits.{waitsMost}
+use Rattle.pause.specs.Ending.{endingOf, toldOf, waitsAt, whyOf, saidOf}
+use Rattle.pause.specs.Follow.{Followed, followedOf}
+use Rattle.pause.specs.Laws.Keeps.{Standing}
+use Rattle.pause.specs.Request.{Request, stepsOf, hasCounts, canFollow, longOrder, wrongOrder, complaintOf}
+use Rattle.pause.specs.Text.{answerOf, askedOf, spokenOf, longestText}
+use Rattle.pause.specs.Within.{runWithin}
+
+pub record Spoken (s : Streams) (out why out' why' : List ℕ) (r : Written) : Type 0 where
+  pub text : Appended (s .text) out 0 out' (r .text)
+  pub reasons : Appended (s .reasons) why 0 why' (r .reasons)
+  pub text-few : length (s .text) ≤ longestText
+  pub reasons-few : length (s .reasons) ≤ waitsMost
+
+-- a recording whose layout is known
+module _ (q : Request) (b : List ℕ) (l : Layout) (e : l ≡ layoutOf (parse b)) (out why : List ℕ) where
+  refused-so : (l .number ≡ 0 → ⊥) → answerOf q b (parse b) ≡ record { text = refusalOf (l .number) (l .offset); reasons = [] }
+  unfolding answerOf
+  refused-so z = elim (located b l e) [
+    | away c p n o k ↦ rw (n, o, p)
+    | found p k n o ↦ absurd (z n)
+  ]
+
+  pub answer-refused : (l .number ≡ 0 → ⊥) → (out' : List ℕ) (end : ℕ) → Appended (refusalOf (l .number) (l .offset)) out 0 out' end
+      → Spoken (answerOf q b (parse b)) out why out' why (record { text = end; reasons = 0 })
+  answer-refused z out' end p = rw (refused-so z) (record { text = p; reasons = nothing why 0; text-few = omega (arith, refusal-few (l .number) (l .offset)); reasons-few = omega arith })
+
+  -- a recording that reads
+  record Reads : Type 0 where
+    pub parsed : Parsed
+    pub reads : parse b ≡ read parsed
+    pub tasks : l .tasks ≡ parsed .recording .tasks
+    pub objects : l .objects ≡ length (parsed .recording .owners)
+
+  reads-so : l .number ≡ 0 → Reads
+  reads-so z = elim (located b l e) [
+    | away c p n o k ↦ absurd (omega (arith, k .0))
+    | found p k n o ↦ record { parsed = p; reads = k; tasks = rw e (laid-read b p k .tasks); objects = o }
+  ]
+
+  short-so : l .number ≡ 0 → hasCounts (q .counts) (l .tasks) ≡ false → answerOf q b (parse b) ≡ record { text = refusalOf wrongLength 0; reasons = [] }
+  unfolding answerOf
+  short-so z h = let r = reads-so z in rw (r .reads, ← r .tasks, h)
+
+  pub answer-short : l .number ≡ 0 → hasCounts (q .counts) (l .tasks) ≡ false → (out' : List ℕ) (end : ℕ) → Appended (refusalOf wrongLength 0) out 0 out' end
+      → Spoken (answerOf q b (parse b)) out why out' why (record { text = end; reasons = 0 })
+  answer-short z h out' end p = rw (short-so z h) (record { text = p; reasons = nothing why 0; text-few = omega (arith, refusal-few wrongLength 0); reasons-few = omega arith })
+
+  -- an opened replay: it can be played, its steps have room, and what is written is what its steps give
+  pub record Opened (r : Run) (m : List ℕ) : Type 0 where
+    pub standing : Standing b (q .counts) (record { run = r; memory = m; steps = 0 })
+    pub left : leftOver r ≤ mostSteps
+    pub answer : answerOf q b (parse b) ≡ saidOf b (q .counts) (followedOf b (q .most) (q .counts) (record { run = r; memory = m; steps = 0 }) (stepsOf q b r))
+
+  few-counts : (n : ℕ) → n ≤ maxTasks → hasCounts (q .counts) n ≡ true → length (q .counts) ≤ maxTasks
+  unfolding hasCounts
+  few-counts n h p = elim (split (eqb (length (q .counts)) 0)) [
+    | passes a ↦ omega (arith, eqb-true (length (q .counts)) 0 a)
+    | fails a ↦ omega (arith, eqb-true (length (q .counts)) n (rw a at p))
+  ]
+
+  pub opened : (k : List ℕ) (r : Run) (m : List ℕ) → Bytes b → length b ≤ longest → l .number ≡ 0 → hasCounts (q .counts) (l .tasks) ≡ true → length k ≡ l .objects
+      → r ≡ openOf b k .answer .run → m ≡ openOf b k .memory → Opened r m
+  unfolding answerOf
+  opened k r m by h z c w f g =
+      let d = reads-so z in
+      let p = d .parsed in
+      let o = opened-small b p by (d .reads) h in
+      let n = sound-facts _ _ (o .playing .sound) .few-tasks in
+      rw (f, g, open-accepts b k p (d .reads) (w ∙ d .objects)) (record {
+        standing = record { small = o; few = few-counts (l .tasks) (omega (arith, n, d .tasks)) c; held = λ t i. omega (arith, opened-stands b p (d .reads) .done t) };
+        left = omega (arith, opened-left b p by (d .reads));
+        answer = rw (d .reads, ← d .tasks, c);
+      })
+
+-- the order as text
+module _ (most : ℕ) (counts order b : List ℕ) where
+  pub asked-plain : askedOf most counts false order b ≡ answerOf (record { most = most; counts = counts; ordered = false; tasks = [] }) b (parse b)
+  unfolding askedOf canFollow
+  asked-plain = refl
+
+  pub asked-ordered : length order ≤ longest → wrongLine order ≡ 0 → askedOf most counts true order b ≡ answerOf (record { most = most; counts = counts; ordered = true; tasks = tasksOf order }) b (parse b)
+  unfolding askedOf canFollow
+  asked-ordered h z = rw (le-leb (length order) longest h, eq-eqb (wrongLine order) 0 z)
+
+  pub asked-wrong : length order ≤ longest → (wrongLine order ≡ 0 → ⊥) → askedOf most counts true order b ≡ record { text = []; reasons = wrongOrder (wrongLine order) }
+  unfolding askedOf canFollow complaintOf
+  asked-wrong h z = rw (le-leb (length order) longest h, ne-eqb (wrongLine order) 0 z, le-ltb longest (length order) h)
+
+  pub asked-long : longest < length order → askedOf most counts true order b ≡ record { text = []; reasons = longOrder }
+  unfolding askedOf canFollow complaintOf
+  asked-long h = rw (lt-leb (length order) longest h, lt-ltb longest (length order) h)
+
+pub wrong-few : (line : ℕ) → length (wrongOrder line) ≤ 60
+wrong-few line = simp length-append (omega (arith, field-length line 32, decimal-short line))
+
+-- nothing but a reason
+pub complains : (w out why why' : List ℕ) (end : ℕ) → length w ≤ waitsMost → Appended w why 0 why' end → Spoken (record { text = []; reasons = w }) out why out why' (record { text = 0; reasons = end })
+complains w out why why' end h p = record { text = nothing out 0; reasons = p; text-few = omega arith; reasons-few = h }
+
+-- the steps, how they ended, and why
+module _ (b counts : List ℕ) (f : Followed) (out why : List ℕ) (few : length (toldOf b f) ≤ longestText) (why-few : length (whyOf b counts f) ≤ waitsMost) where
+  pub said-stopped : (f .stopped .number ≡ 0 → ⊥) → (o : List ℕ) (j : ℕ) → Appended (f .text) out 0 o j → (out' : List ℕ) (end : ℕ) → Appended (refusalOf (f .stopped .number) (f .stopped .offset)) o j out' end
+      → (why' : List ℕ) (n : ℕ) → Appended (differOf b (f .play .memory) (f .stopped .offset)) why 0 why' n → Spoken (saidOf b counts f) out why out' why' (record { text = end; reasons = n })
+  unfolding toldOf whyOf
+  said-stopped z o j p out' end g why' n k = record { text = rw (ne-eqb (f .stopped .number) 0 z) (joined p g); reasons = rw (ne-eqb (f .stopped .number) 0 z) k; text-few = few; reasons-few = why-few }
+
+  pub said-ended : f .stopped .number ≡ 0 → (o : List ℕ) (j : ℕ) → Appended (f .text) out 0 o j → (out' : List ℕ) (end : ℕ) → Appended (endingOf b (f .play)) o j out' end
+      → (why' : List ℕ) (n : ℕ) → Appended (waitsAt b (runWithin counts (f .play .run))) why 0 why' n → Spoken (saidOf b counts f) out why out' why' (record { text = end; reasons = n })
+  unfolding toldOf whyOf
+  said-ended z o j p out' end g why' n k = record { text = rw (eq-eqb (f .stopped .number) 0 z) (joined p g); reasons = rw (eq-eqb (f .stopped .number) 0 z) k; text-few = few; reasons-few = why-few }
+
+  -- what is written after the lines has room
+  pub refusal-room : (f .stopped .number ≡ 0 → ⊥) → length (f .text) + length (refusalOf (f .stopped .number) (f .stopped .offset)) ≤ longestText
+  unfolding toldOf
+  refusal-room z = omega (arith, simp length-append at (rw (ne-eqb (f .stopped .number) 0 z) at few))
+
+  pub ending-room : f .stopped .number ≡ 0 → length (f .text) + length (endingOf b (f .play)) ≤ longestText
+  unfolding toldOf
+  ending-room z = omega (arith, simp length-append at (rw (eq-eqb (f .stopped .number) 0 z) at few))
+
+-- the steps asked for
+pub steps-given : (q : Request) (b : List ℕ) (r : Run) → q .ordered ≡ true → stepsOf q b r ≡ q .tasks
+unfolding stepsOf
+steps-given q b r e = rw e
+
+pub steps-lowest : (q : Request) (b : List ℕ) (r : Run) → q .ordered ≡ false → stepsOf q b r ≡ scheduleOf b (runWithin (q .counts) r)
+unfolding stepsOf
+steps-lowest q b r e = rw e
+
+module _ (most : ℕ) (counts : List ℕ) (ordered : Bool) (order b : List ℕ) where
+  pub spoken-long : longest < length b → spokenOf most counts ordered order b ≡ record { text = longLine; reasons = [] }
+  unfolding spokenOf
+  spoken-long h = rw (lt-ltb longest (length b) h)
+
+  pub spoken-asked : length b ≤ longest → spokenOf most counts ordered order b ≡ askedOf most counts ordered order b
+  unfolding spokenOf
+  spoken-asked h = rw (le-ltb longest (length b) h)
