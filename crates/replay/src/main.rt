@@ -21,7 +21,8 @@ fn play(bytes: &[u8]) {
     put(&out[..text], &why[..reasons]);
 }
 
-// Plays the steps that the options ask for.
+// Plays the steps that the options ask for. It is called from two places, so that its buffers do not become part of the frame of `main`,
+// which every start pays for.
 fn play_asked(bytes: &[u8], most: usize, counts: &[u32], ordered: bool, order: &[u8]) {
     let mut out = pause::space();
     let mut why = [0u8; MOST_WAITS];
@@ -75,12 +76,9 @@ There is no exit status: look at what was written.
         return play(&bytes[..n]);
     }
     let k = asked.counts;
+    if !asked.ordered {
+        return play_asked(&bytes[..n], asked.most, &counts[..k], false, b"");
+    }
     let m = asked.order;
-    play_asked(
-        &bytes[..n],
-        asked.most,
-        &counts[..k],
-        asked.ordered,
-        &order[..m],
-    )
+    play_asked(&bytes[..n], asked.most, &counts[..k], true, &order[..m])
 }
