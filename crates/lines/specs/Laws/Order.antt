@@ -1,18 +1,14 @@
--- Laws of `Order`: how many tasks a text can give, and that each of them is a number.
+-- Laws of `Order`: how many tasks a text can give, and the numbers of its lines.
 use mathlib.Core.Path.{_≡_, refl}
 use mathlib.Core.List.{List, [], _∷_}
-use Prim.Native.Nat.{ℕ, zero, suc, _+_, _*_, _<_, _≤_}
+use Prim.Native.Nat.{ℕ, suc, _+_, _*_, _≤_}
 use native.Mathlib.Omega.{arith}
 use lib.Dec.{eqb}
-use lib.ListN.{length, getD}
+use lib.ListN.{length}
 use Rattle.bytes.specs.Bytes.{indexOf}
 use Rattle.codec.specs.Laws.Decide.{passes, fails, split}
-use Rattle.lines.specs.Fields.{fieldsOf}
-use Rattle.lines.specs.Laws.OrderCode.{row-one}
 use Rattle.lines.specs.Lines.{Line, linesOf, isPassed, numbered}
-use Rattle.lines.specs.Number.{none}
-use Rattle.lines.specs.Order.{isYes, behindYes, wrongIn, wrongLine, tasksIn, tasksOf}
-use Rattle.lines.specs.Rows.{isRow}
+use Rattle.lines.specs.Order.{isYes, behindYes, tasksIn, tasksOf}
 use Rattle.lines.specs.Words.{front, bareOf, wordsIn, piecesOf, filledOf}
 
 -- the bytes of some lines, each with its newline
@@ -78,29 +74,3 @@ numbered-on n m (l ∷ ls) h = elim (split (isPassed l)) [
 pub first-from : (n : ℕ) (ls : List (List ℕ)) (l : Line) (rest : List Line) → numbered n ls ≡ l ∷ rest → n ≤ l .number
 unfolding NumberedFrom
 first-from n ls l rest e = (rw e at (numbered-on n n ls (omega arith))) .0
-
-behind-from : (n : ℕ) (ls : List Line) → NumberedFrom n ls → NumberedFrom n (behindYes ls)
-unfolding behindYes NumberedFrom
-behind-from n [] h = tt
-behind-from n (l ∷ ls) h = elim (split (isYes (l .bytes))) [
-  | passes p ↦ rw p (h .1)
-  | fails p ↦ rw p h
-]
-
-tasks-fit : (ls : List Line) → NumberedFrom 1 ls → wrongIn ls ≡ 0 → (i : ℕ) → getD (tasksIn ls) i 0 < none
-unfolding wrongIn tasksIn NumberedFrom
-tasks-fit [] h e i = omega arith
-tasks-fit (l ∷ ls) h e i = elim (split (isRow 1 (fieldsOf (l .bytes)))) [
-  | passes p ↦ each _ (tasksIn ls) (row-one (fieldsOf (l .bytes)) p .1) (tasks-fit ls (h .1) (rw p at e)) i
-  | fails p ↦ absurd (let z : l .number ≡ 0 = rw p at e in let y : ⊥ = omega (arith, h .0) in y)
-]
-  where
-    each : (x : ℕ) (xs : List ℕ) → x < none → ((j : ℕ) → getD xs j 0 < none) → (j : ℕ) → getD (x ∷ xs) j 0 < none
-    each x xs a b zero = a
-    each x xs a b (suc j) = b j
-
--- line numbers begin at 1, so that the number of a wrong line is never 0
-pub task-fits : (text : List ℕ) → wrongLine text ≡ 0 → (i : ℕ) → getD (tasksOf text) i 0 < 4294967296
-task-fits text e i =
-    let ls = numbered 1 (linesOf text) in
-    tasks-fit (behindYes ls) (behind-from 1 ls (numbered-on 1 1 (linesOf text) (omega arith))) e i

@@ -36,7 +36,7 @@ module _ (b : List ℕ) (most : ℕ) (counts : List ℕ) where
   followed-none x = refl
 
   -- what becomes of the first step
-  pub data FirstStep (x : Play) (t : ℕ) (steps : List ℕ) : Type 0 where
+  data FirstStep (x : Play) (t : ℕ) (steps : List ℕ) : Type 0 where
     over : followedOf b most counts x (t ∷ steps) ≡ resting x → FirstStep x t steps
     left-out : followedOf b most counts x (t ∷ steps) ≡ followedOf b most counts x steps → FirstStep x t steps
     taken : takesStep b x t ≡ true → followedOf b most counts x (t ∷ steps) ≡ inFront (lineOf t (answerAt b x t)) (followedOf b most counts (steppedBy b x t) steps) → FirstStep x t steps
@@ -44,7 +44,7 @@ module _ (b : List ℕ) (most : ℕ) (counts : List ℕ) where
     stopping : isPassed (answerAt b x t .number) ≡ false
         → followedOf b most counts x (t ∷ steps) ≡ record { text = []; play = x; stopped = stop (answerAt b x t .number) (answerAt b x t .offset) } → FirstStep x t steps
 
-  pub first-step : (x : Play) (t : ℕ) (steps : List ℕ) → FirstStep x t steps
+  first-step : (x : Play) (t : ℕ) (steps : List ℕ) → FirstStep x t steps
   unfolding followedOf triedOf
   first-step x t steps = elim (split (isOver most counts x)) [
     | passes o ↦ over (rw o)
