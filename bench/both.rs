@@ -1,7 +1,7 @@
 //! One call each on both sides, with the same arguments and the same lent bytes: every field of the answer, and every buffer, state
 //! and run after the call, are compared. What was lent is left as the call leaves it.
 
-use crate::cases::Cases;
+use crate::cases::{Cases, Openings};
 use crate::ours::{self, Answer, State};
 use crate::peer::{number, reader, recorder, replayer};
 use crate::theirs;
@@ -40,11 +40,12 @@ fn same_answer(what: &str, ours: Answer, theirs: &[usize]) -> Same {
     same(what, ours, fields)
 }
 
-/// Counts the calls, and the cases of `playable` and of values.
+/// Counts the calls, and the cases of `playable`, of openings and of values.
 #[derive(Default)]
 pub struct Both {
     pub answers: u64,
     pub cases: Cases,
+    pub openings: Openings,
     pub values: Values,
 }
 
@@ -171,8 +172,9 @@ impl Both {
         let mut memory_2 = memory.to_vec();
         let (ours, places) = ours::replay_open(bytes, memory);
         let theirs = replayer::open(bytes, &mut memory_2);
-        let fields = [theirs.number as usize, theirs.offset];
+        let fields = [theirs.number as usize, theirs.offset, theirs.records];
         same_answer("replay opening", ours, &fields)?;
+        self.openings.count(&theirs);
         let run = ours::places_of(&theirs.run);
         same_list("replay opening's run", &places, &run)?;
         same_list("replay opening's memory", memory, &memory_2)?;

@@ -1,7 +1,8 @@
-//! How often the comparison reached each case of `playable`: random bytes alone would leave most of them out.
+//! How often the comparison reached each case of `playable` and of the replay opening: random bytes alone would leave most of them out.
 
 use crate::inputs::{accesses_in, half_at};
 use crate::orderings::orderings_in;
+use crate::peer::replayer::Opened;
 
 /// Each case by its name.
 #[derive(Default)]
@@ -51,6 +52,56 @@ impl Cases {
     pub fn print(&self) {
         for (name, count) in &self.0 {
             println!("playable {name:<36} {count:>9}");
+        }
+    }
+}
+
+/// Each case of an opening by its name.
+#[derive(Default)]
+pub struct Openings {
+    cases: [(&'static str, u64); 10],
+    /// How often a recording of each number of tasks was accepted, from 1 on.
+    tasks: [u64; 16],
+    /// The most records in one that was accepted.
+    most: usize,
+}
+
+impl Openings {
+    pub fn count(&mut self, opened: &Opened) {
+        let (number, run) = (opened.number, &opened.run);
+        let accepted = number == 0;
+        let accesses = run.count.iter().sum::<u32>() as usize;
+        let orderings = accepted && opened.records > 1 + run.tasks + accesses;
+        let empty = (0..run.tasks).any(|t| run.place[t] == run.end[t]);
+        let cases = [
+            ("accepted", accepted),
+            ("accepted, with orderings", orderings),
+            ("accepted, with an empty body", accepted && empty),
+            ("refused by bytes", (10..=14).contains(&number)),
+            ("refused by bytes, 10", number == 10),
+            ("refused by bytes, 11", number == 11),
+            ("refused by bytes, 12", number == 12),
+            ("refused by bytes, 13", number == 13),
+            ("refused by bytes, 14", number == 14),
+            ("refused with 3", number == 3),
+        ];
+        for (counted, (name, reached)) in self.cases.iter_mut().zip(cases) {
+            *counted = (name, counted.1 + u64::from(reached));
+        }
+        if accepted {
+            self.tasks[run.tasks - 1] += 1;
+            self.most = self.most.max(opened.records);
+        }
+    }
+
+    pub fn print(&self) {
+        let rarest = self.tasks.into_iter().min().unwrap_or(0);
+        let others = [
+            ("accepted, the rarest T of 1 to 16", rarest),
+            ("accepted, most records", self.most as u64),
+        ];
+        for (name, count) in self.cases.iter().chain(&others) {
+            println!("opening {name:<36} {count:>9}");
         }
     }
 }

@@ -268,7 +268,8 @@ impl Script {
         let twin = self.random.twin(first);
         self.compare(first, &twin)?;
         self.compare(&twin, first)?;
-        self.playables(&all)
+        self.playables(&all)?;
+        self.openings(&all[0])
     }
 }
 
@@ -301,8 +302,29 @@ impl Script {
     }
 }
 
+/// Replay openings alone.
+impl Script {
+    /// This recording and a planned one, which often has many orderings or an empty body; each as it is, with a section record
+    /// changed, and damaged; into a memory that is right and into one of any length.
+    fn openings(&mut self, recording: &[u8]) -> Same {
+        let planned = self.random.planned_recording();
+        for whole in [recording, &planned] {
+            let (mut bent, mut damaged) = (whole.to_vec(), whole.to_vec());
+            self.random.bend_section(&mut bent);
+            self.random.damage(&mut damaged);
+            for bytes in [whole, &bent, &damaged] {
+                for length in [objects_in(bytes), self.random.below(300)] {
+                    let mut memory = self.random.words(length);
+                    self.both.replay_open(bytes, &mut memory)?;
+                }
+            }
+        }
+        Ok(())
+    }
+}
+
 /// Scripts of the seeds from `seed` on; says how many calls were compared and what differs first, and if asked how often each case of
-/// `playable` and of values was reached. False where any differ.
+/// `playable`, of openings and of values was reached. False where any differ.
 pub fn run(seed: u64, count: u64, cases: bool) -> bool {
     let mut both = Both::default();
     let mut differ = 0;
@@ -320,6 +342,7 @@ pub fn run(seed: u64, count: u64, cases: bool) -> bool {
     }
     if cases {
         both.cases.print();
+        both.openings.print();
         both.values.print();
     }
     println!("{count} scripts, {} answers, {differ} differ", both.answers);

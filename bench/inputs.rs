@@ -249,6 +249,17 @@ impl Random {
         twin
     }
 
+    /// Another count or size in a section record of bytes that read: most are then refused inside a body or at its end.
+    pub fn bend_section(&mut self, bytes: &mut [u8]) {
+        let Ok(layout) = reader::scan(bytes) else {
+            return;
+        };
+        let section = layout.sections[self.below(layout.tasks)];
+        let at = section.start - self.pick(&[6, 4, 4]);
+        let near = (half_at(bytes, at) + self.below(21)).saturating_sub(10);
+        bytes[at..at + 2].copy_from_slice(&fields(&[near]));
+    }
+
     /// A change that readers meet: a cut, more, a part not at all or twice, a record put in, a field.
     pub fn damage(&mut self, bytes: &mut Vec<u8>) {
         let at = self.below(bytes.len() + 1);

@@ -1,8 +1,8 @@
 //! The proved library beside `peer.rs`, an implementation of the same calls from the papers. Both do the same work on the same bytes in
 //! this process: first a table of times, then random calls whose answers are compared.
 //!
-//! Arguments: the first script's seed and the number of scripts; then `cases`, to see how often each case of `playable` and of values
-//! was reached, or `texts FOLDER`, which only writes that many recordings with what the programs must write for them.
+//! Arguments: the first script's seed and the number of scripts; then `cases`, to see how often each case of `playable`, of openings and
+//! of values was reached, or `texts FOLDER`, which only writes that many recordings with what the programs must write for them.
 
 mod both;
 mod cases;

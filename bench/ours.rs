@@ -198,8 +198,10 @@ pub fn body_check(bytes: &[u8], task: usize) -> Answer {
     answer
 }
 
+/// Number, offset and how many records there are, and the run: a refusal too must write all of these, so none is 0 before.
 pub fn replay_open(bytes: &[u8], memory: &mut [u32]) -> (Answer, Places) {
-    let (mut answer, mut places) = ([0; 6], [0; 66]);
+    let unset = usize::MAX;
+    let (mut answer, mut places) = ([unset, unset, unset, 0, 0, 0], [unset; 66]);
     unsafe {
         wk_replay_open(
             bytes.as_ptr(),

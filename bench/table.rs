@@ -4,7 +4,7 @@
 use crate::both::Both;
 use crate::inputs::{accesses_in, Script};
 use crate::orderings::slow;
-use crate::peer::{reader, recorder, replayer};
+use crate::peer::{reader, recorder};
 use crate::random::Random;
 use crate::{ours, theirs};
 use std::hint::black_box;
@@ -44,7 +44,8 @@ fn record(script: &Script, limit: usize) -> Recording {
         }
         let (task, object) = (x[0] as usize, x[1] as usize);
         let act = [x[2], x[3]];
-        let written = both.access(&mut state, [task, object], act, &mut memory, &mut out);
+        let piece = &mut out[..ACCESS_BYTES];
+        let written = both.access(&mut state, [task, object], act, &mut memory, piece);
         let written = written.expect(same);
         pieces[task].extend_from_slice(&out[..written]);
         room -= written;
@@ -145,34 +146,11 @@ fn recording_rows(random: &mut Random, limit: usize, count: usize) {
     assert!(out == out_2);
     row(&format!("9 sections, {size} bytes"), "us", scale, &times, "");
 
-    let times = best([
-        &mut || all.iter().map(|r| ours::check(&r.bytes)[0] as u64).sum(),
-        &mut || {
-            all.iter()
-                .map(|r| u64::from(reader::check(&r.bytes).number))
-                .sum()
-        },
-    ]);
-    row(&format!("check, {size} bytes"), "us", scale, &times, "");
+    let whole: Vec<&[u8]> = recordings.iter().map(|r| &r.bytes[..]).collect();
+    opening_rows(&whole, objects);
 
     let mut memory = vec![0; objects];
     let mut memory_2 = memory.clone();
-    // Of what an opening answers, where the last task's body ends.
-    let times = best([
-        &mut || {
-            all.iter()
-                .map(|r| ours::replay_open(&r.bytes, &mut memory).1[3 + 4 * 8] as u64)
-                .sum()
-        },
-        &mut || {
-            all.iter()
-                .map(|r| replayer::open(&r.bytes, &mut memory_2).run.end[8] as u64)
-                .sum()
-        },
-    ]);
-    assert!(memory == memory_2);
-    row(&format!("replay opening, {size} bytes"), "us", scale, &times, "");
-
     let times = best([
         &mut || {
             all.iter()
@@ -203,8 +181,47 @@ fn recording_rows(random: &mut Random, limit: usize, count: usize) {
     assert!(memory == memory_2);
     row(&format!("replay by word, {size} bytes"), "us", scale, &times, "");
 
-    let all: Vec<&[u8]> = recordings.iter().map(|r| &r.bytes[..]).collect();
-    playable_row("playable", &all);
+    playable_row("playable", &whole);
+}
+
+/// The check and the replay opening; a figure is for one recording. An opening reads every byte once, so the time to copy them stands
+/// beside it, with the ratio of ours to that.
+fn opening_rows(recordings: &[&[u8]], objects: usize) {
+    let count = recordings.len();
+    let size = recordings.iter().map(|bytes| bytes.len()).sum::<usize>() / count;
+    let scale = 1e6 / count as f64;
+    let all = black_box(recordings);
+    let times = best([
+        &mut || all.iter().map(|bytes| ours::check(bytes)[0] as u64).sum(),
+        &mut || all.iter().map(|bytes| u64::from(reader::check(bytes).number)).sum(),
+    ]);
+    row(&format!("check, {size} bytes"), "us", scale, &times, "");
+
+    let mut memory = vec![0; objects];
+    let mut memory_2 = memory.clone();
+    let longest = all.iter().map(|bytes| bytes.len()).max();
+    let mut copy = vec![0; longest.unwrap_or(0)];
+    // Of what an opening answers, the count of records, which nobody can then leave out.
+    let mut open = || all.iter().map(|bytes| theirs::replay_open(bytes, &mut memory_2).records as u64).sum();
+    let records = open();
+    let times = best([
+        &mut || all.iter().map(|bytes| ours::replay_open(bytes, &mut memory).0[2] as u64).sum(),
+        &mut open,
+        &mut || {
+            for bytes in all {
+                copy[..bytes.len()].copy_from_slice(bytes);
+                black_box(&mut copy);
+            }
+            records
+        },
+    ]);
+    assert!(memory == memory_2);
+    let other = format!(
+        "   {:>9.2} {:>6.2}  to copy the bytes",
+        times[2] * scale,
+        times[0] / times[2]
+    );
+    row(&format!("replay opening, {size} bytes"), "us", scale, &times, &other);
 }
 
 /// A figure is for one recording. The time for a byte shows whether it grows with the bytes alone.
@@ -253,6 +270,9 @@ pub fn print() {
     access_row(&mut random, 16, 256);
     recording_rows(&mut random, 65_535, 16);
     recording_rows(&mut random, 4_096, 256);
+    let (objects, limit) = (140, 16 << 20);
+    let large = record(&random.script(16, objects, limit / 10), limit);
+    opening_rows(&[&large.bytes], objects);
     slow_rows("1 held", 271, |each| slow::held(1, each));
     slow_rows("14 held", 271, |each| slow::held(14, each));
     slow_rows("15 waiting", 8_100, slow::waiting);

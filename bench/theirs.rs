@@ -76,6 +76,12 @@ pub fn pack(state: &recorder::State, logs: &[u8], ends: &[usize], out: &mut [u8]
     [0, 0, 0, sections(state, logs, ends, out)]
 }
 
+/// Not inlined, so that the whole run is made even where only the count is looked at.
+#[inline(never)]
+pub fn replay_open(bytes: &[u8], memory: &mut [u32]) -> replayer::Opened {
+    replayer::open(bytes, memory)
+}
+
 /// Number, offset, steps, whether it finished, and what stopped it with its offset. A scheduler of its own finds the lowest ready task.
 #[inline(never)]
 pub fn replay_to_end(bytes: &[u8], memory: &mut [u32]) -> [usize; 6] {

@@ -82,6 +82,7 @@ int main(void)
 
     wk_replay_open(recording, size, memory, OBJECTS, places, answer);
     accepted("wk_replay_open", answer);
+    printf("records %zu\n", answer[WK_REPLAY_OPEN_RECORDS]);
     for (;;) {
         wk_ready(places, recording, size, answer);
         accepted("wk_ready", answer);

@@ -178,11 +178,12 @@ void wk_body_check(const uint8_t *bytes, size_t bytes_len, size_t task, size_t a
 /* ---- Replay. Every call is lent the same bytes again ---- */
 
 /*
- * Opens a replay: checks the bytes, sets the memory to the starting values, and `places` holds the run. `memory` has an entry for
- * each object. Refused with 10 to 14, 3; `places` is then all zero, which no later call takes.
+ * Opens a replay: checks the bytes and counts the records in one pass, sets the memory to the starting values, and `places` holds the
+ * run. `memory` has an entry for each object. Refused with 10 to 14, 3; `places` is then all zero, which no later call takes.
  */
 #define WK_REPLAY_OPEN_NUMBER 0
 #define WK_REPLAY_OPEN_OFFSET 1
+#define WK_REPLAY_OPEN_RECORDS 2 /* all that stand in the bytes: head, sections, orderings, accesses; 0 if refused */
 void wk_replay_open(const uint8_t *bytes, size_t bytes_len, uint32_t *memory, size_t memory_len, size_t places[WK_PLACES],
                     size_t answer[WK_ANSWER]);
 

@@ -2,6 +2,7 @@
 pub mod Decide
 pub mod Encode
 pub mod Field
+pub mod Front
 pub mod Kind
 pub mod Limit
 pub mod Roundtrip

@@ -10,4 +10,6 @@ pub mod Numbered
 pub mod OrderingAt
 pub mod Part
 pub mod Reading
+pub mod Records
+pub mod Standing
 pub mod WalkCode

@@ -7,4 +7,6 @@ pub mod OrderingAt
 pub mod Part
 pub mod Reading
 pub mod Recording
+pub mod Records
+pub mod Standing
 pub mod Laws

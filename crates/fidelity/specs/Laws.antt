@@ -1,6 +1,7 @@
 -- The laws of this crate's definitions. All of them are proved; a reader does not have to trust anything here.
 pub mod BoxMatches
 pub mod BoxReference
+pub mod Counted
 pub mod Fence
 pub mod Filed
 pub mod FirstBox

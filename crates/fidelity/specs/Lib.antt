@@ -1,5 +1,6 @@
 pub mod Bench
 pub mod Box
+pub mod Counted
 pub mod Fence
 pub mod Filed
 pub mod Paused

@@ -37,7 +37,7 @@ abbrev pub copyNumbers : Copied → List ℕ
 copyNumbers a = a .number ∷ a .offset ∷ a .written ∷ []
 
 abbrev pub replayOpenNumbers : ReplayOpened → List ℕ
-replayOpenNumbers a = a .number ∷ a .offset ∷ []
+replayOpenNumbers a = a .number ∷ a .offset ∷ a .records ∷ []
 
 -- the number of ready tasks and the lowest of them follow from the word
 abbrev pub readyNumbers : ReadyWord → List ℕ

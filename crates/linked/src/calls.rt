@@ -14,6 +14,7 @@ ghost use Rattle.recorder.specs.AccessOf.{accessOf};
 ghost use Rattle.opening.specs.OpenOf.{openOf};
 ghost use Rattle.sections.specs.SectionOf.{sectionOf};
 ghost use Rattle.replayer.specs.OpenOf.{openOf as replayOf};
+ghost use Rattle.replayer.specs.OpenedOf.{openedOf};
 ghost use Rattle.replayer.specs.ReadyOf.{readyOf};
 ghost use Rattle.playback.specs.Shown.{finishedCall};
 ghost use Rattle.scheduler.specs.Schedule.{scheduleFrom};
@@ -143,12 +144,11 @@ pub extern "C" fn wk_replay_open(
     answer: &mut [usize; 6],
 )
     ensures { λ _. ⌜ now (memory .exit) ≡ replayOf (now (bytes .entry)) (now (memory .entry)) .memory ⌝ }
-    ensures { λ _. ⌜ now (answer .exit) ≡ store (now (answer .entry)) 0 (replayOpenNumbers (replayOf (now (bytes .entry)) (now (memory .entry)) .answer)) ⌝ }
+    ensures { λ _. ⌜ now (answer .exit) ≡ store (now (answer .entry)) 0 (replayOpenNumbers (openedOf (now (bytes .entry)) (now (memory .entry)))) ⌝ }
     ensures { λ _. ⌜ now (places .exit) ≡ store (now (places .entry)) 0 (placesOf (replayOf (now (bytes .entry)) (now (memory .entry)) .answer .run)) ⌝ }
 {
     let r = replayer::open(bytes, memory);
-    answer[0] = r.number as usize;
-    answer[1] = r.offset;
+    put_three(answer, r.number as usize, r.offset, r.records);
     let run = r.run;
     put_run(run, places);
 }

@@ -10,6 +10,7 @@ pub mod Layout
 pub mod LocateCode
 pub mod Located
 pub mod Numbered
+pub mod Objects
 pub mod OneByOne
 pub mod Range
 pub mod Roundtrip

@@ -2,6 +2,7 @@
 ghost use mathlib.Core.Path.{_≡_};
 ghost use Rattle.reader.specs.Starting.{startingIn};
 ghost use Rattle.replayer.specs.OpenOf.{startsOf, begunOf, refusedOpen};
+ghost use Rattle.replayer.specs.OpenedOf.{counted};
 ghost use Rattle.pending.specs.Run.{blankTasks};
 use crate::Opened;
 use codec::limit::TASKS;
@@ -67,7 +68,7 @@ pub fn begin(bytes: &[u8], l: Layout, memory: &mut [u32]) -> Run
 
 // A refused opening: the blank run.
 pub(crate) fn refused(number: u32, offset: usize) -> Opened
-    ensures { λ r. ⌜ r ≡ refusedOpen number offset ⌝ }
+    ensures { λ r. ⌜ r ≡ counted (refusedOpen number offset) 0 ⌝ }
 {
     let runs = blank_tasks();
     let run = Run {
@@ -78,6 +79,7 @@ pub(crate) fn refused(number: u32, offset: usize) -> Opened
     Opened {
         number,
         offset,
+        records: 0,
         run,
     }
 }

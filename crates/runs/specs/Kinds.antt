@@ -12,6 +12,7 @@ use Rattle.entries.specs.Recording.{Entry, Recording}
 use Rattle.reader.specs.Calls.{checkedOf}
 use Rattle.reader.specs.Parse.{parse}
 use Rattle.replay_lines.specs.Lines.{lineOf}
+use Rattle.replayer.specs.OpenedOf.{openedOf}
 use Rattle.replayer.specs.ReadyOf.{readyOf}
 use Rattle.replayer.specs.StepOf.{refusedStep}
 use Rattle.tracker.specs.State.{position}
@@ -66,6 +67,10 @@ pub record Kinds : Type 0 where
   pub valued-second : length (bodyBytes (second (op valuedReadKind 7))) ≡ 36
   pub valued-size : length valued ≡ 106
   pub valued-taken : checkedOf (parse valued) ≡ stop 0 0
+  -- 10 records each: the head, 2 sections, 3 orderings, 4 accesses (document 02, F-5); none for a memory of one entry
+  pub bare-records : openedOf bare (3 ∷ 3 ∷ []) .records ≡ 10
+  pub valued-records : openedOf valued (3 ∷ 3 ∷ []) .records ≡ 10
+  pub refused-records : openedOf valued (3 ∷ []) .records ≡ 0
   -- both play to the same lines and the same memory
   pub bare-lines : linesBy bare (bench bare []) (0 ∷ 1 ∷ 0 ∷ 1 ∷ []) ≡ lines
   pub valued-lines : linesBy valued (bench valued []) (0 ∷ 1 ∷ 0 ∷ 1 ∷ []) ≡ lines

@@ -19,6 +19,8 @@ Each line begins with the offset of its record:
   40 ordering 0 after 1 1           the next access of task 0 comes after access 1 of task 1
   48 0 2 R 0 7                      access 2 of task 0 is a read of object 0 and got 7; W is a write
 A read that was recorded without its value has - instead of it.
+The last line says how many records the whole file has, with --task too:
+  records 10                        head, sections, orderings and accesses together
 
 If the input is not a valid recording it lists the records before the one that failed, and then writes
 refused, a number, and the offset of the record that failed. A TASK that the recording does not have

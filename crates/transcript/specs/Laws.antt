@@ -1,6 +1,5 @@
 -- The laws of this crate's definitions. All of them are proved; a reader does not have to trust anything here.
 pub mod Answered
-pub mod Objects
 pub mod Reasons
 pub mod ReasonsEach
 pub mod Stopped

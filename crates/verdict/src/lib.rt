@@ -1,18 +1,16 @@
 // What the playable program writes for a recording (document 02, F-2): yes and the order, or no and what holds it up.
-ghost use mathlib.Core.Path.{_≡_};
 ghost use Prim.Native.Nat.{_+_, _≤_};
 ghost use lib.ListN.{length};
 ghost use Rattle.io.specs.Counts.{Counts};
-ghost use Rattle.playability.specs.Settle.{settleOf};
 ghost use Rattle.replay_lines.specs.Limits.{longest};
 ghost use Rattle.text.specs.Appended.{Appended};
 ghost use Rattle.text.specs.Zeros.{Zeros};
 ghost use Rattle.verdict.specs.Reasons.{reasonsOf};
 ghost use Rattle.verdict.specs.Streams.{streamsOf};
 ghost use Rattle.verdict.specs.Text.{stepsOf, yesOf, noOf, textOf, most};
-ghost use Rattle.waits.specs.Waits.{waitsOf, waitsMost};
+ghost use Rattle.waits.specs.Waits.{waitsMost};
 use codec::number::NO_ORDER;
-use playability::playable;
+use playability::playable_settled;
 use playability::settle::settle;
 use replay_lines::LONGEST;
 use replay_lines::Written;
@@ -64,24 +62,16 @@ fn put_no(out: &mut [u8], task: usize, offset: usize) -> usize
     put_field(out, b, offset as u64, b'\n')
 }
 
-// What each task waits for where the play of a recording stops.
-fn put_reasons(bytes: &[u8], why: &mut [u8]) -> usize
-    requires { ⌜ (settleOf (now bytes) .number ≡ 0) × (waitsMost ≤ length (now why)) ⌝ }
-    ensures { λ r. ⌜ Appended (waitsOf (now (bytes .entry)) (settleOf (now (bytes .entry)) .run)) (now (why .entry)) 0 (now (why .exit)) r ⌝ }
-{
-    let s = settle(bytes);
-    let run = s.run;
-    put_waits(bytes, run, why)
-}
-
-// The answer of the call as text; the reasons only where there is no order.
+// The answer of the call as text; the reasons, what each task waits for where the play stops, only where there is no order. The bytes are
+// checked and played to that place once.
 fn put_answer(bytes: &[u8], out: &mut [u8], why: &mut [u8]) -> Written
     requires { ⌜ (length (now bytes) ≤ longest) × (most ≤ length (now out)) × (waitsMost ≤ length (now why)) ⌝ }
     ensures { λ r. ⌜ Appended (textOf (now (bytes .entry))) (now (out .entry)) 0 (now (out .exit)) (r .text) ⌝ }
     ensures { λ r. ⌜ Appended (reasonsOf (now (bytes .entry))) (now (why .entry)) 0 (now (why .exit)) (r .reasons) ⌝ }
 {
+    let s = settle(bytes);
     let mut order = blank_order();
-    let a = playable(bytes, &mut order);
+    let a = playable_settled(s, bytes, &mut order);
     if a.number == 0 {
         let steps = a.steps;
         let text = put_yes(out, &order[..steps]);
@@ -89,7 +79,7 @@ fn put_answer(bytes: &[u8], out: &mut [u8], why: &mut [u8]) -> Written
     }
     if a.number == NO_ORDER {
         let text = put_no(out, a.task, a.offset);
-        let reasons = put_reasons(bytes, why);
+        let reasons = put_waits(bytes, s.run, why);
         return Written { text, reasons };
     }
     let text = put_refusal(out, 0, a.number, a.offset);

@@ -1,4 +1,5 @@
--- Nothing is left out: for the bytes of a recording, the list of everything is the lines of that recording, record by record.
+-- Nothing is left out: for the bytes of a recording, the list of everything is the lines of that recording, record by record, and then how
+-- many there are.
 use mathlib.Core.Path.{_≡_, refl, sym, ap, _∙_}
 use mathlib.Core.Bool.{false}
 use mathlib.Core.List.{List, [], _∷_, _++_, append-assoc, append-nil}
@@ -22,12 +23,14 @@ use Rattle.entries.specs.declared.Limits.{Limits}
 use Rattle.entries.specs.Laws.Bytes.{entry-length}
 use Rattle.entries.specs.Reading.{read}
 use Rattle.entries.specs.Recording.{Entry, Recording}
+use Rattle.entries.specs.Records.{recordsIn}
 use Rattle.reader.specs.Laws.Strict.{parse-strict}
 use Rattle.reader.specs.Parse.{Parsed, parse}
 use Rattle.reader.specs.Range.{OrderingsIn, EntryIn, EntriesIn, BodiesIn, InRange}
 use Rattle.replay_lines.specs.Limits.{longest}
 use Rattle.listing.specs.declared.Place.{Place}
 use Rattle.listing.specs.Listed.{shows, listed, lineAt, afterOf, partAt, start}
+use Rattle.listing.specs.RecordLines.{recordsLine}
 use Rattle.listing.specs.RecordingLines.{orderingsLines, entryLines, bodyLines, sectionsLines, recordingLines}
 use Rattle.listing.specs.Text.{linesTo, isMissing, answerOf, textOf}
 use Rattle.listing.specs.Laws.Reached.{Reached, reached-start, reached-on, reached-past}
@@ -126,12 +129,14 @@ value-listed chosen b r e i =
     let y : 0 + headLength n ≡ headLength n = omega arith in
     rw y at (sections-come chosen b (r .tasks) n (omega (arith, i .head .few-tasks)) (omega (arith, i .head .few-objects)) (r .bodies) 0 _ (omega (arith, i .body-each, i .head .few-tasks)) (i .bodies) d)
 
--- the lines are the whole text
+-- the lines and their number are the whole text
 pub value-shown : (chosen : ℕ) (b : List ℕ) (p : Parsed) → length b ≤ longest → parse b ≡ read p → b ≡ bytesOf (p .recording) → InRange (p .recording)
-    → textOf false chosen b ≡ recordingLines (p .recording)
+    → textOf false chosen b ≡ recordingLines (p .recording) ++ recordsLine (recordsIn (p .recording))
 unfolding textOf answerOf isMissing
-value-shown chosen b p h e q i = rw (le-ltb longest (length b) h, e) (value-listed chosen b (p .recording) q i)
+value-shown chosen b p h e q i = rw (le-ltb longest (length b) h, e, value-listed chosen b (p .recording) q i)
 
--- THE LIST IS COMPLETE: for all bytes that are read, the text of everything is the lines of the recording that they mean
-pub all-shown : (chosen : ℕ) (b : List ℕ) (p : Parsed) → Bytes b → length b ≤ longest → parse b ≡ read p → textOf false chosen b ≡ recordingLines (p .recording)
+-- THE LIST IS COMPLETE: for all bytes that are read, the text of everything is the lines of the recording that they mean, and its number of
+-- records
+pub all-shown : (chosen : ℕ) (b : List ℕ) (p : Parsed) → Bytes b → length b ≤ longest → parse b ≡ read p
+    → textOf false chosen b ≡ recordingLines (p .recording) ++ recordsLine (recordsIn (p .recording))
 all-shown chosen b p by h e = let s = parse-strict b p by e in value-shown chosen b p h e (s .bytes) (s .in-range)

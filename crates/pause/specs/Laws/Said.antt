@@ -1,5 +1,5 @@
 -- What is written on both streams, as the code has it, and its cases.
-use mathlib.Core.Path.{_≡_, refl, _∙_}
+use mathlib.Core.Path.{_≡_, refl}
 use mathlib.Core.Bool.{Bool, true, false}
 use mathlib.Core.List.{List, []}
 use Prim.Native.Nat.{ℕ, _+_, _≤_, _<_}
@@ -11,15 +11,10 @@ use Rattle.codec.specs.Field.{Bytes}
 use Rattle.codec.specs.Laws.Decide.{passes, fails, split}
 use Rattle.codec.specs.Limit.{maxTasks}
 use Rattle.codec.specs.Number.{entries as wrongLength}
-use Rattle.entries.specs.Reading.{read}
 use Rattle.lines.specs.Order.{wrongLine, tasksOf}
-use Rattle.reader.specs.declared.layout.Layout.{Layout}
-use Rattle.reader.specs.Laws.Laid.{laid-read}
-use Rattle.reader.specs.Laws.Located.{away, found, located}
-use Rattle.reader.specs.Layout.{layoutOf}
-use Rattle.reader.specs.Parse.{Parsed, parse}
-use Rattle.replayer.specs.Laws.OpenOf.{open-accepts, opened-stands}
-use Rattle.replayer.specs.OpenOf.{openOf}
+use Rattle.reader.specs.Parse.{parse}
+use Rattle.replayer.specs.declared.Opened.{Opened as OpenAnswer}
+use Rattle.replayer.specs.Laws.OpenOf.{opened-stands}
 use Rattle.replay_lines.specs.declared.Written.{Written}
 use Rattle.replay_lines.specs.Laws.LinesBound.{refusal-few}
 use Rattle.replay_lines.specs.Limits.{longest, mostSteps}
@@ -33,6 +28,7 @@ use Rattle.scheduler.specs.Schedule.{scheduleOf}
 use Rattle.text.specs.Appended.{Appended}
 use Rattle.text.specs.Laws.Appended.{nothing, joined}
 use Rattle.text.specs.Laws.Decimal.{decimal-short, field-length}
+use Rattle.replayer.specs.Laws.ByHead.{Opening, away, found}
 use Rattle.transcript.specs.Laws.TextBound.{opened-small}
 use Rattle.waits.specs.Differ.{differOf}
 use Rattle.waits.specs.Waits.{waitsMost}
@@ -49,45 +45,35 @@ pub record Spoken (s : Streams) (out why out' why' : List ℕ) (r : Written) : T
   pub text-few : length (s .text) ≤ longestText
   pub reasons-few : length (s .reasons) ≤ waitsMost
 
--- a recording whose layout is known
-module _ (q : Request) (b : List ℕ) (l : Layout) (e : l ≡ layoutOf (parse b)) (out why : List ℕ) where
-  refused-so : (l .number ≡ 0 → ⊥) → answerOf q b (parse b) ≡ record { text = refusalOf (l .number) (l .offset); reasons = [] }
+-- the answer of an opening
+module _ (q : Request) (b : List ℕ) (o : OpenAnswer) (m : List ℕ) (e : Opening b o m) (out why : List ℕ) where
+  refused-so : (o .number ≡ 0 → ⊥) → answerOf q b (parse b) ≡ record { text = refusalOf (o .number) (o .offset); reasons = [] }
   unfolding answerOf
-  refused-so z = elim (located b l e) [
-    | away c p n o k ↦ rw (n, o, p)
-    | found p k n o ↦ absurd (z n)
+  refused-so z = elim e [
+    | away c p n k r ↦ rw (n, k, p)
+    | found p k n r v ↦ absurd (z n)
   ]
 
-  pub answer-refused : (l .number ≡ 0 → ⊥) → (out' : List ℕ) (end : ℕ) → Appended (refusalOf (l .number) (l .offset)) out 0 out' end
+  pub answer-refused : (o .number ≡ 0 → ⊥) → (out' : List ℕ) (end : ℕ) → Appended (refusalOf (o .number) (o .offset)) out 0 out' end
       → Spoken (answerOf q b (parse b)) out why out' why (record { text = end; reasons = 0 })
-  answer-refused z out' end p = rw (refused-so z) (record { text = p; reasons = nothing why 0; text-few = omega (arith, refusal-few (l .number) (l .offset)); reasons-few = omega arith })
+  answer-refused z out' end p = rw (refused-so z) (record { text = p; reasons = nothing why 0; text-few = omega (arith, refusal-few (o .number) (o .offset)); reasons-few = omega arith })
 
-  -- a recording that reads
-  record Reads : Type 0 where
-    pub parsed : Parsed
-    pub reads : parse b ≡ read parsed
-    pub tasks : l .tasks ≡ parsed .recording .tasks
-    pub objects : l .objects ≡ length (parsed .recording .owners)
-
-  reads-so : l .number ≡ 0 → Reads
-  reads-so z = elim (located b l e) [
-    | away c p n o k ↦ absurd (omega (arith, k .0))
-    | found p k n o ↦ record { parsed = p; reads = k; tasks = rw e (laid-read b p k .tasks); objects = o }
+  short-so : o .number ≡ 0 → hasCounts (q .counts) (o .run .tasks) ≡ false → answerOf q b (parse b) ≡ record { text = refusalOf wrongLength 0; reasons = [] }
+  unfolding answerOf
+  short-so z h = elim e [
+    | away c p n k r ↦ absurd (omega (arith, r .0))
+    | found p k n r v ↦ rw (k, rw r at h)
   ]
 
-  short-so : l .number ≡ 0 → hasCounts (q .counts) (l .tasks) ≡ false → answerOf q b (parse b) ≡ record { text = refusalOf wrongLength 0; reasons = [] }
-  unfolding answerOf
-  short-so z h = let r = reads-so z in rw (r .reads, ← r .tasks, h)
-
-  pub answer-short : l .number ≡ 0 → hasCounts (q .counts) (l .tasks) ≡ false → (out' : List ℕ) (end : ℕ) → Appended (refusalOf wrongLength 0) out 0 out' end
+  pub answer-short : o .number ≡ 0 → hasCounts (q .counts) (o .run .tasks) ≡ false → (out' : List ℕ) (end : ℕ) → Appended (refusalOf wrongLength 0) out 0 out' end
       → Spoken (answerOf q b (parse b)) out why out' why (record { text = end; reasons = 0 })
   answer-short z h out' end p = rw (short-so z h) (record { text = p; reasons = nothing why 0; text-few = omega (arith, refusal-few wrongLength 0); reasons-few = omega arith })
 
   -- an opened replay: it can be played, its steps have room, and what is written is what its steps give
-  pub record Opened (r : Run) (m : List ℕ) : Type 0 where
-    pub standing : Standing b (q .counts) (record { run = r; memory = m; steps = 0 })
-    pub left : leftOver r ≤ mostSteps
-    pub answer : answerOf q b (parse b) ≡ saidOf b (q .counts) (followedOf b (q .most) (q .counts) (record { run = r; memory = m; steps = 0 }) (stepsOf q b r))
+  pub record Opened : Type 0 where
+    pub standing : Standing b (q .counts) (record { run = o .run; memory = m; steps = 0 })
+    pub left : leftOver (o .run) ≤ mostSteps
+    pub answer : answerOf q b (parse b) ≡ saidOf b (q .counts) (followedOf b (q .most) (q .counts) (record { run = o .run; memory = m; steps = 0 }) (stepsOf q b (o .run)))
 
   few-counts : (n : ℕ) → n ≤ maxTasks → hasCounts (q .counts) n ≡ true → length (q .counts) ≤ maxTasks
   unfolding hasCounts
@@ -96,19 +82,19 @@ module _ (q : Request) (b : List ℕ) (l : Layout) (e : l ≡ layoutOf (parse b)
     | fails a ↦ omega (arith, eqb-true (length (q .counts)) n (rw a at p))
   ]
 
-  pub opened : (k : List ℕ) (r : Run) (m : List ℕ) → Bytes b → length b ≤ longest → l .number ≡ 0 → hasCounts (q .counts) (l .tasks) ≡ true → length k ≡ l .objects
-      → r ≡ openOf b k .answer .run → m ≡ openOf b k .memory → Opened r m
+  pub opened : Bytes b → length b ≤ longest → o .number ≡ 0 → hasCounts (q .counts) (o .run .tasks) ≡ true → Opened
   unfolding answerOf
-  opened k r m by h z c w f g =
-      let d = reads-so z in
-      let p = d .parsed in
-      let o = opened-small b p by (d .reads) h in
-      let n = sound-facts _ _ (o .playing .sound) .few-tasks in
-      rw (f, g, open-accepts b k p (d .reads) (w ∙ d .objects)) (record {
-        standing = record { small = o; few = few-counts (l .tasks) (omega (arith, n, d .tasks)) c; held = λ t i. omega (arith, opened-stands b p (d .reads) .done t) };
-        left = omega (arith, opened-left b p by (d .reads));
-        answer = rw (d .reads, ← d .tasks, c);
-      })
+  opened by h z c = elim e [
+    | away d p n k r ↦ absurd (omega (arith, r .0))
+    | found p k n r v ↦
+        let s = opened-small b p by k h in
+        let w : hasCounts (q .counts) (p .recording .tasks) ≡ true = rw r at c in
+        record {
+          standing = rw (r, v) (record { small = s; few = few-counts _ (sound-facts _ _ (s .playing .sound) .few-tasks) w; held = λ t i. omega (arith, opened-stands b p k .done t) });
+          left = rw r (omega (arith, opened-left b p by k));
+          answer = rw (r, v, k, w);
+        }
+  ]
 
 -- the order as text
 module _ (most : ℕ) (counts order b : List ℕ) where

@@ -4,6 +4,7 @@ use mathlib.Core.Path.{_≡_}
 use Prim.Native.Nat.{ℕ}
 use lib.ListN.{length, replicate, length-replicate}
 use Rattle.fidelity.specs.Box.{lastBox, recordingOf}
+use Rattle.fidelity.specs.Laws.Counted.{counted-value}
 use Rattle.fidelity.specs.Laws.BoxMatches.{parsedBy, in-range, recording-bytes, recording-parsed}
 use Rattle.listing.specs.Laws.Complete.{value-shown}
 use Rattle.script.specs.RecordOf.{recordOf}
@@ -27,5 +28,5 @@ lists text z =
       asked = w .asked;
       asks = w .asks;
       recorded-each = w .counted;
-      is = rw (w .is) (value-shown 0 b (parsedBy o (w .asked)) h e (recording-bytes o (a .opened) (w .asked) outs (a .packed)) (in-range o (a .opened) (w .asked)));
+      is = rw (w .is, ← counted-value o (w .asked) (a .opened)) (value-shown 0 b (parsedBy o (w .asked)) h e (recording-bytes o (a .opened) (w .asked) outs (a .packed)) (in-range o (a .opened) (w .asked)));
     }

@@ -18,6 +18,7 @@ use Rattle.codec.specs.Number.{short, range}
 use Rattle.entries.specs.declared.Checked.{Checked}
 use Rattle.reader.specs.declared.layout.Layout.{Layout}
 use Rattle.entries.specs.Reading.{Reading, refused, read, stop, mapped}
+use Rattle.entries.specs.Records.{recordsIn}
 use Rattle.reader.specs.Section.{TaskBody}
 use Rattle.reader.specs.Parse.{HeadFields, Parsed, parsedOf, ownersOf, valuesOf, allBelow, sizesOk, onHead, headAt, sectionsAfter, parse}
 use Rattle.reader.specs.Laws.HeadCode.{Headed, head-facts, owners-count}
@@ -30,6 +31,7 @@ pub record Laid (p : Parsed) (l : Layout) : Type 0 where
   pub number : l .number ≡ 0
   pub tasks : l .tasks ≡ p .recording .tasks
   pub objects : l .objects ≡ length (p .recording .owners)
+  pub records : l .records ≡ recordsIn (p .recording)
   pub span : (t : ℕ) → t < p .recording .tasks → getD (l .spans) t noSpan ≡ getD (p .spans) t noSpan
 
 pub laid-read : (b : List ℕ) (p : Parsed) → parse b ≡ read p → Laid p (layoutOf (parse b))
@@ -42,6 +44,7 @@ laid-read b p e =
       number = refl;
       tasks = refl;
       objects = refl;
+      records = refl;
       span = λ t h. rw (sets-eq (p .spans) blankSpans 0 (omega arith), List·getD-append (p .spans) (drop (0 + length (p .spans)) blankSpans) noSpan t (omega arith));
     })
 

@@ -23,6 +23,7 @@ use Rattle.codec.specs.Limit.{maxTasks}
 use Rattle.pending.specs.Run.{blankTasks}
 use Rattle.replayer.specs.Laws.OpenOf.{starts-length}
 use Rattle.replayer.specs.OpenOf.{startOf, startsOf, begunOf, openedRun, refusedOpen, onParse, openOf}
+use Rattle.replayer.specs.OpenedOf.{recordsFor}
 
 -- the tasks
 pub starts-none : (spans : List Span) → startsOf spans 0 ≡ blankTasks
@@ -60,26 +61,28 @@ begun-opened b p l e q =
 -- what opening finds in the layout
 pub record Refusing (b memory : List ℕ) (number offset : ℕ) : Type 0 where
   pub answer : refusedOpen number offset ≡ openOf b memory .answer
+  pub records : 0 ≡ recordsFor (openOf b memory .answer .number) (parse b)
   pub kept : memory ≡ openOf b memory .memory
 
 pub record Opening (b memory : List ℕ) (l : Layout) : Type 0 where
   pub answer : record { number = 0; offset = 0; run = begunOf l } ≡ openOf b memory .answer
+  pub records : l .records ≡ recordsFor (openOf b memory .answer .number) (parse b)
   pub values : startingIn b memory ≡ openOf b memory .memory
 
 module _ (b memory : List ℕ) (l : Layout) (e : l ≡ layoutOf (parse b)) where
   pub open-bytes : (l .number ≡ 0 → ⊥) → Refusing b memory (l .number) (l .offset)
-  unfolding openOf onParse
+  unfolding openOf onParse recordsFor
   open-bytes h = go (parse b) refl
     where
       go : (x : Reading Parsed) → parse b ≡ x → Refusing b memory (l .number) (l .offset)
       go (refused c) q =
           let n : l .number ≡ c .number = rw (e, q) (laid-refused c .0) in
           let o : l .offset ≡ c .offset = rw (e, q) (laid-refused c .1) in
-          record { answer = rw (q, n, o); kept = rw q }
+          record { answer = rw (q, n, o); records = rw q; kept = rw q }
       go (read p) q = absurd (h (rw e (laid-read b p q .number)))
 
   pub open-length : l .number ≡ 0 → (length memory ≡ l .objects → ⊥) → Refusing b memory wrongLength 0
-  unfolding openOf onParse
+  unfolding openOf onParse recordsFor
   open-length z h = go (parse b) refl
     where
       go : (x : Reading Parsed) → parse b ≡ x → Refusing b memory wrongLength 0
@@ -90,10 +93,10 @@ module _ (b memory : List ℕ) (l : Layout) (e : l ≡ layoutOf (parse b)) where
       go (read p) q =
           let o : l .objects ≡ length (p .recording .owners) = rw e (laid-read b p q .objects) in
           let d = ne-eqb (length memory) (length (p .recording .owners)) (λ k. h (k ∙ sym o)) in
-          record { answer = rw (q, d); kept = rw (q, d) }
+          record { answer = rw (q, d); records = rw (q, d); kept = rw (q, d) }
 
   pub open-opens : l .number ≡ 0 → length memory ≡ l .objects → Opening b memory l
-  unfolding openOf onParse
+  unfolding openOf onParse recordsFor
   open-opens z h = go (parse b) refl
     where
       go : (x : Reading Parsed) → parse b ≡ x → Opening b memory l
@@ -108,5 +111,6 @@ module _ (b memory : List ℕ) (l : Layout) (e : l ≡ layoutOf (parse b)) where
           let d = eq-eqb (length memory) (length (p .recording .owners)) n in
           record {
             answer = rw (q, d, begun-opened b p l e q);
+            records = rw (q, d, w .records);
             values = rw (starting-there b memory (rw n (v .within)), q, d, n) (sym (v .values));
           }

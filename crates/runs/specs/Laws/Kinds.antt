@@ -9,6 +9,7 @@ use Rattle.entries.specs.Body.{bodyEntries, bodyFrom}
 use Rattle.entries.specs.Bytes.{orderingsBytes, entryBytes, bodyBytes, sectionsBytes, bytesOf}
 use Rattle.entries.specs.Entry.{entryAt, entryFrom, onRecord, accessOf, accessOk, orderingOk}
 use Rattle.entries.specs.Part.{part}
+use Rattle.entries.specs.Records.{bodyRecords, sectionsRecords, recordsIn}
 use Rattle.reader.specs.Calls.{checkedOf}
 use Rattle.reader.specs.Parse.{allBelow, parse, headAt, onHead, sectionsAfter, ownersOf, valuesOf, sizesOk}
 use Rattle.reader.specs.Section.{sectionsOf, sectionAt, onSection, sectionBody, taken}
@@ -18,6 +19,7 @@ use Rattle.pending.specs.Next.{entryNext, judged, nextOf}
 use Rattle.pending.specs.Run.{movedOf}
 use Rattle.pending.specs.Sound.{taskSound, soundOf}
 use Rattle.replayer.specs.OpenOf.{startsOf, onParse, openOf}
+use Rattle.replayer.specs.OpenedOf.{recordsFor}
 use Rattle.replayer.specs.ReadyOf.{isReady, readyOf}
 use Rattle.replayer.specs.StepOf.{earlyNumber, onNext, stepOf}
 use Rattle.replayer.specs.Word.{wordOf}
@@ -27,7 +29,7 @@ use Rattle.fidelity.specs.Bench.{steppedAll}
 use Rattle.runs.specs.Kinds.{linesBy, Kinds}
 
 pub kinds : Kinds
-unfolding ordering access start startTwo le2 le4 head headObject headObjects section bodyEntries bodyFrom entryAt entryFrom onRecord accessOf accessOk orderingOk recordOf headOf sectionOf bodyOf field2 field4 checkedOf parse headAt onHead sectionsAfter sectionsOf sectionAt onSection sectionBody taken ownersOf valuesOf sizesOk allBelow isWithin orderingsBytes entryBytes bodyBytes sectionsBytes bytesOf part reads writes storesValue isValuedRead allFrom taskSound soundOf allMet movedOf entryNext judged nextOf wordOf isReady readyOf startsOf onParse openOf earlyNumber onNext stepOf steppedAll lineOf digitsWithin linesBy
+unfolding bodyRecords sectionsRecords recordsIn recordsFor ordering access start startTwo le2 le4 head headObject headObjects section bodyEntries bodyFrom entryAt entryFrom onRecord accessOf accessOk orderingOk recordOf headOf sectionOf bodyOf field2 field4 checkedOf parse headAt onHead sectionsAfter sectionsOf sectionAt onSection sectionBody taken ownersOf valuesOf sizesOk allBelow isWithin orderingsBytes entryBytes bodyBytes sectionsBytes bytesOf part reads writes storesValue isValuedRead allFrom taskSound soundOf allMet movedOf entryNext judged nextOf wordOf isReady readyOf startsOf onParse openOf earlyNumber onNext stepOf steppedAll lineOf digitsWithin linesBy
 kinds = record {
   bare-first = refl;
   bare-second = refl;
@@ -37,6 +39,9 @@ kinds = record {
   valued-second = refl;
   valued-size = refl;
   valued-taken = refl;
+  bare-records = refl;
+  valued-records = refl;
+  refused-records = refl;
   bare-lines = refl;
   valued-lines = refl;
   bare-memory = refl;
