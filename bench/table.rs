@@ -147,7 +147,9 @@ fn recording_rows(random: &mut Random, limit: usize, count: usize) {
     row(&format!("9 sections, {size} bytes"), "us", scale, &times, "");
 
     let whole: Vec<&[u8]> = recordings.iter().map(|r| &r.bytes[..]).collect();
-    opening_rows(&whole, objects);
+    opening_rows("", &whole, objects);
+    // Branches learn this one.
+    opening_rows(" of one again and again", &whole[..1], objects);
 
     let mut memory = vec![0; objects];
     let mut memory_2 = memory.clone();
@@ -186,7 +188,7 @@ fn recording_rows(random: &mut Random, limit: usize, count: usize) {
 
 /// The check and the replay opening; a figure is for one recording. An opening reads every byte once, so the time to copy them stands
 /// beside it, with the ratio of ours to that.
-fn opening_rows(recordings: &[&[u8]], objects: usize) {
+fn opening_rows(which: &str, recordings: &[&[u8]], objects: usize) {
     let count = recordings.len();
     let size = recordings.iter().map(|bytes| bytes.len()).sum::<usize>() / count;
     let scale = 1e6 / count as f64;
@@ -195,7 +197,7 @@ fn opening_rows(recordings: &[&[u8]], objects: usize) {
         &mut || all.iter().map(|bytes| ours::check(bytes)[0] as u64).sum(),
         &mut || all.iter().map(|bytes| u64::from(reader::check(bytes).number)).sum(),
     ]);
-    row(&format!("check, {size} bytes"), "us", scale, &times, "");
+    row(&format!("check{which}, {size} bytes"), "us", scale, &times, "");
 
     let mut memory = vec![0; objects];
     let mut memory_2 = memory.clone();
@@ -221,7 +223,7 @@ fn opening_rows(recordings: &[&[u8]], objects: usize) {
         times[2] * scale,
         times[0] / times[2]
     );
-    row(&format!("replay opening, {size} bytes"), "us", scale, &times, &other);
+    row(&format!("replay opening{which}, {size} bytes"), "us", scale, &times, &other);
 }
 
 /// A figure is for one recording. The time for a byte shows whether it grows with the bytes alone.
@@ -254,7 +256,9 @@ fn playable_row(work: &str, recordings: &[&[u8]]) {
 /// With `small` accesses of each task that has many, which is about 64 KiB, and with as many as a task can make.
 fn slow_rows(work: &str, small: usize, recording: impl Fn(usize) -> Vec<u8>) {
     for each in [small, 65_535] {
-        playable_row(&format!("playable, {work}"), &[&recording(each)]);
+        let bytes = recording(each);
+        opening_rows(&format!(", {work}"), &[&bytes], 1);
+        playable_row(&format!("playable, {work}"), &[&bytes]);
     }
 }
 
@@ -272,7 +276,7 @@ pub fn print() {
     recording_rows(&mut random, 4_096, 256);
     let (objects, limit) = (140, 16 << 20);
     let large = record(&random.script(16, objects, limit / 10), limit);
-    opening_rows(&[&large.bytes], objects);
+    opening_rows("", &[&large.bytes], objects);
     slow_rows("1 held", 271, |each| slow::held(1, each));
     slow_rows("14 held", 271, |each| slow::held(14, each));
     slow_rows("15 waiting", 8_100, slow::waiting);

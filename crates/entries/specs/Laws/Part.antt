@@ -3,8 +3,11 @@ use mathlib.Core.Path.{_≡_, refl, ap, _∙_, sym}
 use mathlib.Core.List.{List, [], _∷_}
 use Prim.Native.Nat.{ℕ, zero, suc, _+_, _-_, _≤_, min}
 use native.Mathlib.Omega.{arith}
+use lib.Dec.{leb}
 use lib.ListN.{length, take, drop, length-take, length-drop}
 use lib.Seq.{drop-drop, take-all, take-nil}
+use borrow.Author.Tests.{leb-true, leb-false}
+use Rattle.codec.specs.Laws.Decide.{passes, fails, split}
 use Rattle.entries.specs.Part.{part}
 
 drop-take : (n k : ℕ) (l : List ℕ) → drop n (take k l) ≡ take (k - n) (drop n l)
@@ -46,6 +49,17 @@ part-all b = let e : length b - 0 ≡ length b = omega arith in rw e (take-all (
 pub part-none : (from to : ℕ) (b : List ℕ) → to ≤ from → part from to b ≡ []
 unfolding part
 part-none from to b h = let e : to - from ≡ 0 = omega arith in rw e
+
+-- the same, with a start that is not past the end either
+pub part-clipped : (from to : ℕ) (b : List ℕ) → part (min from (min to (length b))) (min to (length b)) b ≡ part from to b
+part-clipped from to b =
+    let end = min to (length b) in
+    elim (split (leb from end)) [
+      | passes p ↦ let e : min from end ≡ from = omega (arith, leb-true from end p) in rw e (part-min from to b)
+      | fails p ↦
+          let h = leb-false from end p in
+          part-none (min from end) end b (omega (arith, h)) ∙ sym (part-none from end b (omega (arith, h))) ∙ part-min from to b
+    ]
 
 -- everything from an index on
 pub rest-all : (at : ℕ) (b : List ℕ) → take (length b - at) (drop at b) ≡ drop at b
