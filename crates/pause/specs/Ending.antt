@@ -13,8 +13,8 @@ use Rattle.replay_lines.specs.Streams.{Streams}
 use Rattle.scheduler.specs.Finish.{Play, finishedOf}
 use Rattle.waits.specs.Differ.{differOf}
 use Rattle.waits.specs.Waits.{waitsOf}
-use Rattle.pause.specs.Follow.{Followed}
-use Rattle.pause.specs.Within.{runWithin}
+use Rattle.follow.specs.Follow.{Followed}
+use Rattle.follow.specs.Within.{runWithin}
 
 unfoldable pub endingOf : List ℕ → Play → List ℕ
 endingOf b x = cond (finishedOf (x .run)) (endLine true (x .steps) ++ memoryOf (x .memory)) (blockOf (x .steps) (x .run) (readyOf (x .run) b .word) (x .memory))

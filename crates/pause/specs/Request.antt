@@ -11,7 +11,7 @@ use Rattle.pending.specs.declared.Run.{Run}
 use Rattle.replay_lines.specs.Limits.{longest}
 use Rattle.scheduler.specs.Schedule.{scheduleOf}
 use Rattle.text.specs.Decimal.{fieldOf}
-use Rattle.pause.specs.Within.{runWithin}
+use Rattle.follow.specs.Within.{runWithin}
 
 -- `tasks` are those of the order, if there is one
 pub record Request : Type 0 where

@@ -16,7 +16,7 @@ use Rattle.replay_lines.specs.Streams.{Streams, streamsWithin}
 use Rattle.scheduler.specs.Finish.{Play}
 use Rattle.waits.specs.Waits.{waitsMost}
 use Rattle.pause.specs.Ending.{saidOf}
-use Rattle.pause.specs.Follow.{Followed, followedOf}
+use Rattle.follow.specs.Follow.{Followed, followedOf}
 use Rattle.pause.specs.Request.{Request, stepsOf, hasCounts, requestOf, canFollow, complaintOf}
 
 -- a recording at its start

@@ -7,7 +7,7 @@ use mathlib.Core.Path.{_≡_}
 use Prim.Native.Nat.{ℕ}
 use Rattle.entries.specs.Reading.{read}
 use Rattle.pause.specs.Ending.{endingOf}
-use Rattle.pause.specs.Follow.{Followed}
+use Rattle.follow.specs.Follow.{Followed}
 use Rattle.pause.specs.Request.{Request, hasCounts}
 use Rattle.pause.specs.Text.{followedBy, answerOf}
 use Rattle.pending.specs.Run.{doneOf}

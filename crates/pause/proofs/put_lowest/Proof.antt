@@ -10,7 +10,7 @@ use Rattle.scheduler.specs.Schedule.{scheduleOf}
 use Rattle.transcript.specs.Laws.Answered.{Ordered, ordered}
 use Rattle.pause.specs.Laws.Keeps.{within-sound, within-shaped, within-left}
 use Rattle.pause.specs.Laws.Widen.{front-of}
-use Rattle.pause.specs.Within.{runWithin}
+use Rattle.follow.specs.Within.{runWithin}
 use borrow.Author.Needs.{needs}
 use Rattle.pause.proofs.put_lowest.Statement.{statement}
 use Rattle.pause.proofs.put_lowest.Tie as tie

@@ -20,11 +20,11 @@ use Rattle.waits.specs.Laws.Differ.{differ-short}
 use Rattle.waits.specs.Laws.Waits.{waits-short}
 use Rattle.waits.specs.Waits.{waitsMost}
 use Rattle.pause.specs.Ending.{endingOf, toldOf, waitsAt, whyOf}
-use Rattle.pause.specs.Follow.{Followed, isPassed, answerAt, triedOf, isOver, followedOf}
-use Rattle.pause.specs.Laws.Follow.{tried-steps}
+use Rattle.follow.specs.Follow.{Followed, isPassed, answerAt, triedOf, isOver, followedOf}
+use Rattle.follow.specs.Laws.Follow.{tried-steps}
 use Rattle.pause.specs.Laws.Keeps.{Standing, tried-stands, followed-stands}
 use Rattle.pause.specs.Text.{longestText}
-use Rattle.pause.specs.Within.{isThere, runWithin}
+use Rattle.follow.specs.Within.{isThere, runWithin}
 
 passed-small : (n : ℕ) → isPassed n ≡ true → n < 100
 passed-small n p = elim (split (eqb n noTask)) [

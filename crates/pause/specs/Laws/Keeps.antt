@@ -21,9 +21,9 @@ use Rattle.pending.specs.Sound.{soundOf}
 use Rattle.replayer.specs.Laws.StepOf.{taken, turned, differing, step-goes}
 use Rattle.scheduler.specs.Finish.{Play, takesStep, steppedBy, leftIn, leftOver}
 use Rattle.transcript.specs.Laws.ToldBound.{Small, stays}
-use Rattle.pause.specs.Follow.{isPassed, answerAt, triedOf, isOver, followedOf}
-use Rattle.pause.specs.Laws.Within.{held-length}
-use Rattle.pause.specs.Within.{isThere, heldBy, heldTo, runWithin}
+use Rattle.follow.specs.Follow.{isPassed, answerAt, triedOf, isOver, followedOf}
+use Rattle.follow.specs.Laws.Within.{held-length}
+use Rattle.follow.specs.Within.{isThere, heldBy, heldTo, runWithin}
 
 -- no task beyond its count
 abbrev pub WithinCounts : List ℕ → Run → Type 0

@@ -33,11 +33,11 @@ use Rattle.transcript.specs.Laws.TextBound.{opened-small}
 use Rattle.waits.specs.Differ.{differOf}
 use Rattle.waits.specs.Waits.{waitsMost}
 use Rattle.pause.specs.Ending.{endingOf, toldOf, waitsAt, whyOf, saidOf}
-use Rattle.pause.specs.Follow.{Followed, followedOf}
+use Rattle.follow.specs.Follow.{Followed, followedOf}
 use Rattle.pause.specs.Laws.Keeps.{Standing}
 use Rattle.pause.specs.Request.{Request, stepsOf, hasCounts, canFollow, longOrder, wrongOrder, complaintOf}
 use Rattle.pause.specs.Text.{answerOf, askedOf, spokenOf, longestText}
-use Rattle.pause.specs.Within.{runWithin}
+use Rattle.follow.specs.Within.{runWithin}
 
 pub record Spoken (s : Streams) (out why out' why' : List ℕ) (r : Written) : Type 0 where
   pub text : Appended (s .text) out 0 out' (r .text)

@@ -13,8 +13,8 @@ use Rattle.scheduler.specs.Finish.{Play, takesStep, steppedBy}
 use Rattle.scheduler.specs.Laws.Schedule.{AllTaken, StepsTo}
 use Rattle.scheduler.specs.Schedule.{playedBy}
 use Rattle.transcript.specs.Laws.Told.{taken-steps}
-use Rattle.pause.specs.Follow.{Followed, resting, inFront, isPassed, answerAt, triedOf, isOver, followedOf}
-use Rattle.pause.specs.Within.{isThere}
+use Rattle.follow.specs.Follow.{Followed, resting, inFront, isPassed, answerAt, triedOf, isOver, followedOf}
+use Rattle.follow.specs.Within.{isThere}
 
 no-steps : (b : List ℕ) (x : Play) → StepsTo b x x
 unfolding AllTaken playedBy

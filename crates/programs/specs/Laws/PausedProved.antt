@@ -15,7 +15,7 @@ use Rattle.fidelity.specs.Laws.LowestFirst.{box-refused}
 use Rattle.fidelity.specs.Laws.OnePlace.{one-place}
 use Rattle.fidelity.specs.Statement.{Accepted, RefusedBy}
 use Rattle.pause.specs.Ending.{endingOf, toldOf}
-use Rattle.pause.specs.Follow.{isPassed}
+use Rattle.follow.specs.Follow.{isPassed}
 use Rattle.pause.specs.Laws.Taken.{followed-taken, followed-stops}
 use Rattle.pause.specs.Request.{Request, stepsOf, hasCounts}
 use Rattle.pause.specs.Text.{startOf, followedBy, answerOf}

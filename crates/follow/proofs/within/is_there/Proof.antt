@@ -1,11 +1,11 @@
 use native.Mathlib.Omega.{arith}
 use borrow.Author.Tests.{lt-ltb, le-ltb}
-use Rattle.pause.specs.Within.{isThere}
+use Rattle.follow.specs.Within.{isThere}
 use borrow.Author.Needs.{needs}
-use Rattle.pause.proofs.within.is_there.Statement.{statement}
-use Rattle.pause.proofs.within.is_there.Tie as tie
-use Rattle.pause.proofs.within.is_there.Reads as reads
-use Rattle.pause.proofs.within.is_there.Lts as lts
+use Rattle.follow.proofs.within.is_there.Statement.{statement}
+use Rattle.follow.proofs.within.is_there.Tie as tie
+use Rattle.follow.proofs.within.is_there.Reads as reads
+use Rattle.follow.proofs.within.is_there.Lts as lts
 
 returns : tie.Need-returns
 unfolding isThere

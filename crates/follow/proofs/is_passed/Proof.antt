@@ -1,10 +1,10 @@
 use mathlib.Core.Path.{_≡_}
 use borrow.Author.Tests.{eq-eqb, ne-eqb}
 use Rattle.codec.specs.Number.{noTask, finished}
-use Rattle.pause.proofs.follow.is_passed.Statement.{statement}
-use Rattle.pause.proofs.follow.is_passed.Tie as tie
-use Rattle.pause.proofs.follow.is_passed.Reads as reads
-use Rattle.pause.proofs.follow.is_passed.Lts as lts
+use Rattle.follow.proofs.is_passed.Statement.{statement}
+use Rattle.follow.proofs.is_passed.Tie as tie
+use Rattle.follow.proofs.is_passed.Reads as reads
+use Rattle.follow.proofs.is_passed.Lts as lts
 
 returns : tie.Need-returns
 returns c = let e : c .before .args .number ≡ noTask = c .if1 .taken in rw (eq-eqb (c .before .args .number) noTask e)

@@ -2,11 +2,11 @@ use mathlib.Core.Path.{sym, ap, _∙_}
 use native.Mathlib.Omega.{arith}
 use denote.Ref.{now}
 use lib.ListN.{length}
-use Rattle.pause.specs.Follow.{Followed}
-use Rattle.pause.specs.Laws.Follow.{next-rests, next-tries}
+use Rattle.follow.specs.Follow.{Followed}
+use Rattle.follow.specs.Laws.Follow.{next-rests, next-tries}
 use borrow.Author.Needs.{needs}
-use Rattle.pause.proofs.follow.put_next.Statement.{statement}
-use Rattle.pause.proofs.follow.put_next.Tie as tie
+use Rattle.follow.proofs.put_next.Statement.{statement}
+use Rattle.follow.proofs.put_next.Tie as tie
 
 is-there-requires : tie.Need-is-there-requires
 is-there-requires c κs = search needs

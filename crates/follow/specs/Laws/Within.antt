@@ -7,7 +7,7 @@ use native.Mathlib.Numerals.{add-one}
 use lib.ListN.{length, getD, take, set}
 use Rattle.pending.specs.declared.TaskRun.{TaskRun}
 use Rattle.pending.specs.Run.{taskAt}
-use Rattle.pause.specs.Within.{heldBy, heldTo}
+use Rattle.follow.specs.Within.{heldBy, heldTo}
 
 -- one more count
 held-suc : (counts : List ℕ) (xs : List TaskRun) (i : ℕ) → i < length counts → i < length xs

@@ -5,9 +5,9 @@ ghost use Prim.Native.Nat.{_+_, _<_, _≤_};
 ghost use lib.Dec.{leb};
 ghost use lib.ListN.{length};
 ghost use Rattle.codec.specs.Limit.{maxTasks};
-ghost use Rattle.pause.specs.Follow.{isPassed, triedOf, followedOf};
-ghost use Rattle.pause.specs.Laws.Follow.{nextBy, Stands};
-ghost use Rattle.pause.specs.Within.{allThere};
+ghost use Rattle.follow.specs.Follow.{isPassed, triedOf, followedOf};
+ghost use Rattle.follow.specs.Laws.Follow.{nextBy, Stands};
+ghost use Rattle.follow.specs.Within.{allThere};
 use crate::within::all_there;
 use crate::within::is_there;
 use codec::number::FINISHED;
@@ -19,13 +19,15 @@ use replay_lines::block::put_turned;
 use replay_lines::put_step;
 use replayer::step;
 
+pub mod within;
+
 // The run after the steps, the number of steps taken, the offset after their lines, and the number and offset of the step that stopped
 // it, 0 and 0 if none did.
-pub(crate) struct Stood {
-    pub(crate) run: Run,
-    pub(crate) steps: usize,
-    pub(crate) at: usize,
-    pub(crate) stopped: Checked,
+pub struct Stood {
+    pub run: Run,
+    pub steps: usize,
+    pub at: usize,
+    pub stopped: Checked,
 }
 
 // Whether a refused step is passed: no such task, nothing left for it, held.
@@ -131,7 +133,7 @@ fn is_over(run: Run, steps: usize, most: usize, counts: &[u32]) -> bool
 }
 
 // The steps of a list, from the start of the output.
-pub(crate) fn put_followed(
+pub fn put_followed(
     bytes: &[u8],
     start: Run,
     memory: &mut [u32],

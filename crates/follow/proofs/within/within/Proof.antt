@@ -4,13 +4,13 @@ use native.Mathlib.Omega.{arith}
 use denote.Ref.{now}
 use lib.ListN.{length, take}
 use lib.Seq.{take-all}
-use Rattle.pause.specs.Within.{heldTo}
-use Rattle.pause.specs.Laws.Within.{held-more, held-none}
+use Rattle.follow.specs.Within.{heldTo}
+use Rattle.follow.specs.Laws.Within.{held-more, held-none}
 use borrow.Author.Needs.{needs}
-use Rattle.pause.proofs.within.within.Statement.{statement}
-use Rattle.pause.proofs.within.within.Tie as tie
-use Rattle.pause.proofs.within.within.Reads as reads
-use Rattle.pause.proofs.within.within.Lts as lts
+use Rattle.follow.proofs.within.within.Statement.{statement}
+use Rattle.follow.proofs.within.within.Tie as tie
+use Rattle.follow.proofs.within.within.Reads as reads
+use Rattle.follow.proofs.within.within.Lts as lts
 use Rattle.codec.proofs.limit.least.Reads as least-reads
 
 abbrev Inv-loop : tie.InvT-loop

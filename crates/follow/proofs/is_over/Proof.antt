@@ -2,11 +2,11 @@ use Prim.Native.Nat.{_≤_, _<_}
 use native.Mathlib.Omega.{arith}
 use borrow.Author.Tests.{le-leb, lt-leb}
 use borrow.Author.Needs.{needs}
-use Rattle.pause.proofs.follow.is_over.Statement.{statement}
-use Rattle.pause.proofs.follow.is_over.Tie as tie
-use Rattle.pause.proofs.follow.is_over.Reads as reads
-use Rattle.pause.proofs.follow.is_over.Lts as lts
-use Rattle.pause.proofs.within.all_there.Reads as all-there-reads
+use Rattle.follow.proofs.is_over.Statement.{statement}
+use Rattle.follow.proofs.is_over.Tie as tie
+use Rattle.follow.proofs.is_over.Reads as reads
+use Rattle.follow.proofs.is_over.Lts as lts
+use Rattle.follow.proofs.within.all_there.Reads as all-there-reads
 
 returns : tie.Need-returns
 returns c = let a = c .before .before .args in let h : a .most ≤ a .steps = omega (arith, c .if1 .taken) in rw (le-leb (a .most) (a .steps) h)

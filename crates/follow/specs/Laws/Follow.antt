@@ -20,8 +20,8 @@ use Rattle.replay_lines.specs.Lines.{lineOf}
 use Rattle.scheduler.specs.Finish.{Play, takesStep, steppedBy}
 use Rattle.text.specs.Appended.{Appended}
 use Rattle.text.specs.Laws.Appended.{nothing, joined}
-use Rattle.pause.specs.Follow.{Followed, resting, inFront, isPassed, answerAt, triedOf, isOver, followedOf}
-use Rattle.pause.specs.Within.{isThere}
+use Rattle.follow.specs.Follow.{Followed, resting, inFront, isPassed, answerAt, triedOf, isOver, followedOf}
+use Rattle.follow.specs.Within.{isThere}
 
 in-front-twice : (l k : List ℕ) (f : Followed) → inFront l (inFront k f) ≡ inFront (l ++ k) f
 in-front-twice l k f = let e : l ++ (k ++ f .text) ≡ (l ++ k) ++ f .text = sym (append-assoc l k (f .text)) in

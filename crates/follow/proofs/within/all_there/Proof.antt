@@ -6,13 +6,13 @@ use lib.ListN.{length}
 use borrow.Author.Tests.{not-true, not-false, lt-ltb, le-ltb}
 use Rattle.pending.specs.All.{allFrom}
 use Rattle.pending.specs.Laws.All.{all-on, all-off, all-end}
-use Rattle.pause.specs.Within.{isThere, allThere}
+use Rattle.follow.specs.Within.{isThere, allThere}
 use borrow.Author.Needs.{needs}
-use Rattle.pause.proofs.within.all_there.Statement.{statement}
-use Rattle.pause.proofs.within.all_there.Tie as tie
-use Rattle.pause.proofs.within.all_there.Reads as reads
-use Rattle.pause.proofs.within.all_there.Lts as lts
-use Rattle.pause.proofs.within.is_there.Reads as is-there-reads
+use Rattle.follow.proofs.within.all_there.Statement.{statement}
+use Rattle.follow.proofs.within.all_there.Tie as tie
+use Rattle.follow.proofs.within.all_there.Reads as reads
+use Rattle.follow.proofs.within.all_there.Lts as lts
+use Rattle.follow.proofs.within.is_there.Reads as is-there-reads
 
 abbrev Inv-loop : tie.InvT-loop
 Inv-loop run counts t₀ t-end t = (t ≤ length counts) × (allFrom (isThere counts run) t (length counts - t) ≡ allFrom (isThere counts run) 0 (length counts))

@@ -4,7 +4,7 @@ ghost use Prim.Native.Nat.{_≤_};
 ghost use lib.ListN.{length};
 ghost use Rattle.codec.specs.Limit.{maxTasks};
 ghost use Rattle.pending.specs.Laws.Moved.{Shaped};
-ghost use Rattle.pause.specs.Within.{isThere, allThere, runWithin};
+ghost use Rattle.follow.specs.Within.{isThere, allThere, runWithin};
 use codec::limit::least;
 use pending::Run;
 use pending::TaskRun;
@@ -39,7 +39,7 @@ pub(crate) fn all_there(run: Run, counts: &[u32]) -> bool
 }
 
 // The run without the accesses beyond the counts.
-pub(crate) fn within(run: Run, counts: &[u32]) -> Run
+pub fn within(run: Run, counts: &[u32]) -> Run
     requires { ⌜ Shaped run × (length (now counts) ≤ maxTasks) ⌝ }
     ensures { λ r. ⌜ r ≡ runWithin (now (counts .entry)) run ⌝ }
 {

@@ -2,10 +2,10 @@ use mathlib.Core.Path.{sym, ap, _∙_}
 use native.Mathlib.Omega.{arith}
 use denote.Ref.{now}
 use lib.ListN.{length}
-use Rattle.pause.specs.Laws.Follow.{taken-room, passed-room, tried-taken, tried-passed, tried-stops}
+use Rattle.follow.specs.Laws.Follow.{taken-room, passed-room, tried-taken, tried-passed, tried-stops}
 use borrow.Author.Needs.{needs}
-use Rattle.pause.proofs.follow.put_tried.Statement.{statement}
-use Rattle.pause.proofs.follow.put_tried.Tie as tie
+use Rattle.follow.proofs.put_tried.Statement.{statement}
+use Rattle.follow.proofs.put_tried.Tie as tie
 
 step-requires : tie.Need-step-requires
 step-requires c κs = search needs

@@ -6,10 +6,10 @@ use lib.ListN.{length, getD}
 use Rattle.entries.specs.declared.Checked.{Checked}
 use Rattle.entries.specs.Reading.{stop}
 use Rattle.scheduler.specs.Finish.{Play}
-use Rattle.pause.specs.Laws.Follow.{Following, following-start, follow-ends, follow-over, follow-on, follow-stops, follow-room, next-steps, next-goes}
+use Rattle.follow.specs.Laws.Follow.{Following, following-start, follow-ends, follow-over, follow-on, follow-stops, follow-room, next-steps, next-goes}
 use borrow.Author.Needs.{needs}
-use Rattle.pause.proofs.follow.put_followed.Statement.{statement}
-use Rattle.pause.proofs.follow.put_followed.Tie as tie
+use Rattle.follow.proofs.put_followed.Statement.{statement}
+use Rattle.follow.proofs.put_followed.Tie as tie
 
 abbrev Inv-loop : tie.InvT-loop
 Inv-loop bytes memory₀ most counts steps out₀ p₀ i₀ i-end memory out p i =

@@ -13,7 +13,7 @@ use Rattle.replayer.specs.StepOf.{stepOf}
 use Rattle.replay_lines.specs.Block.{turnedLine}
 use Rattle.replay_lines.specs.Lines.{lineOf}
 use Rattle.scheduler.specs.Finish.{Play, takesStep, steppedBy}
-use Rattle.pause.specs.Within.{isThere, allThere}
+use Rattle.follow.specs.Within.{isThere, allThere}
 
 -- the lines, the play after the steps, and the number and offset that stopped it, 0 and 0 if none did
 pub record Followed : Type 0 where

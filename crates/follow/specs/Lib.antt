@@ -1,0 +1,3 @@
+pub mod Follow
+pub mod Within
+pub mod Laws
