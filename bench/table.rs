@@ -86,7 +86,7 @@ fn best<const SIDES: usize>(mut sides: [&mut dyn FnMut() -> u64; SIDES]) -> [f64
 fn row(work: &str, unit: &str, scale: f64, times: &[f64], other: &str) {
     let [ours, theirs] = [times[0] * scale, times[1] * scale];
     println!(
-        "{work:<34} {ours:>9.1} {theirs:>9.1} {unit:<3} {:>6.2}{other}",
+        "{work:<52} {ours:>9.1} {theirs:>9.1} {unit:<3} {:>6.2}{other}",
         ours / theirs
     );
 }
@@ -265,7 +265,7 @@ fn slow_rows(work: &str, small: usize, recording: impl Fn(usize) -> Vec<u8>) {
 pub fn print() {
     println!("The best of the rounds of {SECONDS} seconds, both sides in turn; buffers are not cleared in between.");
     println!(
-        "{:<34} {:>9} {:>9} {:<3} {:>6}   {:>9} {:>6}",
+        "{:<52} {:>9} {:>9} {:<3} {:>6}   {:>9} {:>6}",
         "", "ours", "theirs", "", "ratio", "theirs", "ratio"
     );
     let mut random = Random(1);
