@@ -1,6 +1,6 @@
 // Plays the recordings of data/ and compares the output: runs that no theorem covers, among them two that get stuck. Each is also paused
 // after two steps, and played by an order of which some steps are refused.
-use input::pausing::ALL;
+use options::ALL;
 use waits::MOST_WAITS;
 
 // Writes what the replay program writes on both streams for a recording without options.

@@ -4,14 +4,13 @@ ghost use mathlib.Core.Bool.{false};
 ghost use mathlib.Core.Path.{_≡_};
 ghost use Prim.Native.Nat.{_<_};
 ghost use Rattle.io.specs.Counts.{Counts};
+ghost use Rattle.input.specs.Option.{isOption};
 use check::same;
 use libc::STDERR_FILENO;
 use libc::STDIN_FILENO;
 use libc::STDOUT_FILENO;
 use lines::fields::NONE;
 use lines::fields::field;
-
-pub mod pausing;
 
 // The input is at the front of the buffer, `count` bytes. If `read` is false there is nothing to work on, and the reason has already been
 // written.
@@ -90,7 +89,7 @@ fn from_standard(program: &[u8], expected: &[u8], buffer: &mut [u8]) -> Input
 }
 
 // Writes how the program is called; `options` names what it takes before the file.
-pub(crate) fn put_usage(fd: i32, program: &[u8], options: &[u8]) {
+pub fn put_usage(fd: i32, program: &[u8], options: &[u8]) {
     io::write_all(fd, b"usage: ");
     io::write_all(fd, program);
     io::write_all(fd, options);
@@ -106,7 +105,9 @@ fn misused(program: &[u8], options: &[u8]) -> Input
 }
 
 // Whether a word begins as an option does.
-pub(crate) fn is_option(word: &[u8]) -> bool {
+pub fn is_option(word: &[u8]) -> bool
+    ensures { λ r. ⌜ r ≡ isOption (now (word .entry)) ⌝ }
+{
     if word.len() == 0 {
         return false;
     }
@@ -139,7 +140,7 @@ fn from_word(
 }
 
 // Follows the argument at an index.
-pub(crate) fn from_argument(
+pub fn from_argument(
     at: usize,
     program: &[u8],
     options: &[u8],
@@ -159,7 +160,7 @@ pub(crate) fn from_argument(
 }
 
 // Reads what the arguments from `at` on name: at most one of them.
-pub(crate) fn from_rest(
+pub fn from_rest(
     at: usize,
     program: &[u8],
     options: &[u8],

@@ -5,7 +5,5 @@ pub mod FieldsCode
 pub mod Found
 pub mod Lines
 pub mod Number
-pub mod Order
-pub mod OrderCode
 pub mod RowCode
 pub mod WordsCode

@@ -3,7 +3,6 @@ pub mod Asked
 pub mod Fields
 pub mod Lines
 pub mod Number
-pub mod Order
 pub mod Rows
 pub mod Words
 pub mod Laws

@@ -96,7 +96,7 @@ fn fields_in(line: &[u8], out: &mut [u64]) -> usize
 }
 
 // The fields of a line, as far as there is room for them. Returns how many the line has.
-pub(crate) fn fields(line: &[u8], out: &mut [u64]) -> usize
+pub fn fields(line: &[u8], out: &mut [u64]) -> usize
     requires { ⌜ length (now line) ≤ 1048576 ⌝ }
     ensures { λ r. ⌜ r ≡ length (fieldsOf (now (line .entry))) ⌝ }
     ensures { λ r. ⌜ now (out .exit) ≡ store (now (out .entry)) 0 (fieldsOf (now (line .entry))) ⌝ }

@@ -9,7 +9,6 @@ use bytes::scan::find;
 
 pub mod asked;
 pub mod fields;
-pub mod order;
 pub mod rows;
 pub mod words;
 

@@ -33,7 +33,7 @@ fn numbers_in(row: &[u64]) -> bool
 }
 
 // Whether a line consists of `count` numbers. They are put into the row.
-pub(crate) fn is_row(line: &[u8], count: usize, row: &mut [u64]) -> bool
+pub fn is_row(line: &[u8], count: usize, row: &mut [u64]) -> bool
     requires { ⌜ (length (now line) ≤ 1048576) × (count ≤ length (now row)) ⌝ }
     ensures { λ r. ⌜ r ≡ isRow count (fieldsOf (now (line .entry))) ⌝ }
     ensures { λ r. ⌜ now (row .exit) ≡ store (now (row .entry)) 0 (fieldsOf (now (line .entry))) ⌝ }

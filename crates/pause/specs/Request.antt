@@ -6,7 +6,7 @@ use mathlib.Core.List.{List, [], _∷_, _++_}
 use Prim.Native.Nat.{ℕ}
 use lib.Dec.{eqb, leb, ltb}
 use lib.ListN.{length}
-use Rattle.lines.specs.Order.{wrongLine, tasksOf}
+use Rattle.order.specs.Order.{wrongLine, tasksOf}
 use Rattle.pending.specs.declared.Run.{Run}
 use Rattle.replay_lines.specs.Limits.{longest}
 use Rattle.scheduler.specs.Schedule.{scheduleOf}

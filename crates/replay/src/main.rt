@@ -1,6 +1,6 @@
 // The replay program (document 01; document 02, F-4): plays a recording from a file or standard input, always the lowest ready task, one
 // line for each step. Options pause it or give another order.
-use input::pausing::with_pause;
+use options::with_pause;
 use waits::MOST_WAITS;
 
 // Writes the answer and what there is to say about it.

@@ -4,8 +4,8 @@ use denote.Ref.{now}
 use lib.ListN.{length, take}
 use Prim.Native.Nat.{_≤_}
 use lib.Seq.{length-take-le}
-use Rattle.lines.specs.Laws.Order.{order-few}
-use Rattle.lines.specs.Order.{wrongLine, tasksOf}
+use Rattle.order.specs.Laws.Order.{order-few}
+use Rattle.order.specs.Order.{wrongLine, tasksOf}
 use Rattle.pause.specs.Laws.Said.{asked-ordered, asked-wrong, asked-long, wrong-few, complains}
 use Rattle.pause.specs.Laws.Widen.{front-of}
 use borrow.Author.Needs.{needs}

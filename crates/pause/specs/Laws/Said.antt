@@ -11,7 +11,7 @@ use Rattle.codec.specs.Field.{Bytes}
 use Rattle.codec.specs.Laws.Decide.{passes, fails, split}
 use Rattle.codec.specs.Limit.{maxTasks}
 use Rattle.codec.specs.Number.{entries as wrongLength}
-use Rattle.lines.specs.Order.{wrongLine, tasksOf}
+use Rattle.order.specs.Order.{wrongLine, tasksOf}
 use Rattle.reader.specs.Parse.{parse}
 use Rattle.replayer.specs.declared.Opened.{Opened as OpenAnswer}
 use Rattle.replayer.specs.Laws.OpenOf.{opened-stands}
