@@ -5,11 +5,10 @@ pub mod Body
 pub mod Bytes
 pub mod Entry
 pub mod EntryCase
+pub mod EntryCode
 pub mod EntryFits
 pub mod Numbered
 pub mod OrderingAt
 pub mod Part
 pub mod Reading
 pub mod Records
-pub mod Standing
-pub mod WalkCode

@@ -8,5 +8,4 @@ pub mod Part
 pub mod Reading
 pub mod Recording
 pub mod Records
-pub mod Standing
 pub mod Laws
