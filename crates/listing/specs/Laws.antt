@@ -1,7 +1,6 @@
 -- The laws of this crate's definitions. All of them are proved; a reader does not have to trust anything here.
 pub mod Complete
 pub mod Fits
-pub mod Lines
 pub mod Reached
 pub mod Text
 pub mod Walk

@@ -7,7 +7,7 @@ use Rattle.codec.specs.Head.{headLength}
 use Rattle.codec.specs.Kind.{sectionKind, orderingKind, lengthOf}
 use Rattle.entries.specs.Bytes.{entryLength, bodyBytes}
 use Rattle.entries.specs.Recording.{Entry, Recording}
-use Rattle.listing.specs.RecordLines.{headLine, sectionLine, orderingLine, accessLine}
+use Rattle.record_lines.specs.RecordLines.{headLine, sectionLine, orderingLine, accessLine}
 
 unfoldable pub orderingsLines : ℕ → ℕ → List Position → List ℕ
 orderingsLines at own [] = []

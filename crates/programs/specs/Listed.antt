@@ -10,8 +10,8 @@ use Rattle.fidelity.specs.Box.{Opening, Asked, recorded, recordingBy}
 use Rattle.fidelity.specs.Counted.{written}
 use Rattle.lines.specs.AccessLines.{accessLines}
 use Rattle.listing.specs.RecordingLines.{recordingLines}
-use Rattle.listing.specs.RecordLines.{recordsLine}
 use Rattle.listing.specs.Text.{textOf}
+use Rattle.record_lines.specs.RecordLines.{recordsLine}
 use Rattle.script.specs.RecordOf.{recordOf}
 use Rattle.programs.specs.Wanted.{wantedIn, wantedBy}
 

@@ -27,10 +27,10 @@ use Rattle.entries.specs.Records.{recordsIn}
 use Rattle.reader.specs.Laws.Strict.{parse-strict}
 use Rattle.reader.specs.Parse.{Parsed, parse}
 use Rattle.reader.specs.Range.{OrderingsIn, EntryIn, EntriesIn, BodiesIn, InRange}
+use Rattle.record_lines.specs.declared.Place.{Place}
+use Rattle.record_lines.specs.RecordLines.{lineAt, recordsLine}
 use Rattle.replay_lines.specs.Limits.{longest}
-use Rattle.listing.specs.declared.Place.{Place}
-use Rattle.listing.specs.Listed.{shows, listed, lineAt, afterOf, partAt, start}
-use Rattle.listing.specs.RecordLines.{recordsLine}
+use Rattle.listing.specs.Listed.{shows, listed, afterOf, partAt, start}
 use Rattle.listing.specs.RecordingLines.{orderingsLines, entryLines, bodyLines, sectionsLines, recordingLines}
 use Rattle.listing.specs.Text.{linesTo, isMissing, answerOf, textOf}
 use Rattle.listing.specs.Laws.Reached.{Reached, reached-start, reached-on, reached-past}
