@@ -117,18 +117,36 @@ fn access_row(random: &mut Random, tasks: usize, objects: usize) {
     row(&work, "ns", scale, &times, &other);
 }
 
+/// What recordings are made of: as many of the accesses as go into `limit` bytes.
+struct Shape {
+    tasks: usize,
+    objects: usize,
+    accesses: usize,
+    limit: usize,
+}
+
+/// The unit for a recording of this size, and how many of them a second has.
+fn unit_for(size: usize) -> (&'static str, f64) {
+    if size < 2_048 {
+        ("ns", 1e9)
+    } else {
+        ("us", 1e6)
+    }
+}
+
 /// Many recordings, so that no branch predictor learns them: a call does all of them, and a figure is for one.
-fn recording_rows(random: &mut Random, limit: usize, count: usize) {
-    let objects = 140;
+fn recording_rows(random: &mut Random, shape: &Shape, count: usize) {
+    let (tasks, objects) = (shape.tasks, shape.objects);
     let recordings: Vec<Recording> = (0..count)
-        .map(|_| record(&random.script(9, objects, limit / 3), limit))
+        .map(|_| record(&random.script(tasks, objects, shape.accesses), shape.limit))
         .collect();
     let size = recordings.iter().map(|r| r.bytes.len()).sum::<usize>() / count;
     let states: Vec<ours::State> = recordings.iter().map(|r| ours::State::of(&r.state)).collect();
-    let scale = 1e6 / count as f64;
+    let (unit, second) = unit_for(size);
+    let scale = second / count as f64;
     let all = black_box(&recordings);
 
-    let mut out = vec![0; limit];
+    let mut out = vec![0; shape.limit];
     let mut out_2 = out.clone();
     let times = best([
         &mut || {
@@ -144,7 +162,7 @@ fn recording_rows(random: &mut Random, limit: usize, count: usize) {
         },
     ]);
     assert!(out == out_2);
-    row(&format!("9 sections, {size} bytes"), "us", scale, &times, "");
+    row(&format!("{tasks} sections, {size} bytes"), unit, scale, &times, "");
 
     let whole: Vec<&[u8]> = recordings.iter().map(|r| &r.bytes[..]).collect();
     opening_rows("", &whole, objects);
@@ -166,7 +184,7 @@ fn recording_rows(random: &mut Random, limit: usize, count: usize) {
         },
     ]);
     assert!(memory == memory_2);
-    row(&format!("replay to the end, {size} bytes"), "us", scale, &times, "");
+    row(&format!("replay to the end, {size} bytes"), unit, scale, &times, "");
 
     let times = best([
         &mut || {
@@ -181,7 +199,7 @@ fn recording_rows(random: &mut Random, limit: usize, count: usize) {
         },
     ]);
     assert!(memory == memory_2);
-    row(&format!("replay by word, {size} bytes"), "us", scale, &times, "");
+    row(&format!("replay by word, {size} bytes"), unit, scale, &times, "");
 
     playable_row("playable", &whole);
 }
@@ -191,13 +209,14 @@ fn recording_rows(random: &mut Random, limit: usize, count: usize) {
 fn opening_rows(which: &str, recordings: &[&[u8]], objects: usize) {
     let count = recordings.len();
     let size = recordings.iter().map(|bytes| bytes.len()).sum::<usize>() / count;
-    let scale = 1e6 / count as f64;
+    let (unit, second) = unit_for(size);
+    let scale = second / count as f64;
     let all = black_box(recordings);
     let times = best([
         &mut || all.iter().map(|bytes| ours::check(bytes)[0] as u64).sum(),
         &mut || all.iter().map(|bytes| u64::from(reader::check(bytes).number)).sum(),
     ]);
-    row(&format!("check{which}, {size} bytes"), "us", scale, &times, "");
+    row(&format!("check{which}, {size} bytes"), unit, scale, &times, "");
 
     let mut memory = vec![0; objects];
     let mut memory_2 = memory.clone();
@@ -223,7 +242,7 @@ fn opening_rows(which: &str, recordings: &[&[u8]], objects: usize) {
         times[2] * scale,
         times[0] / times[2]
     );
-    row(&format!("replay opening{which}, {size} bytes"), "us", scale, &times, &other);
+    row(&format!("replay opening{which}, {size} bytes"), unit, scale, &times, &other);
 }
 
 /// A figure is for one recording. The time for a byte shows whether it grows with the bytes alone.
@@ -250,7 +269,8 @@ fn playable_row(work: &str, recordings: &[&[u8]]) {
     let [ours, theirs] = times.map(|time| time * 1e9 / (count * size) as f64);
     let other = format!("   {ours:>9.2} {theirs:>6.2}  ns for a byte, ours and theirs");
     let work = format!("{work}, {size} bytes");
-    row(&work, "us", 1e6 / count as f64, &times, &other);
+    let (unit, second) = unit_for(size);
+    row(&work, unit, second / count as f64, &times, &other);
 }
 
 /// With `small` accesses of each task that has many, which is about 64 KiB, and with as many as a task can make.
@@ -272,8 +292,15 @@ pub fn print() {
     access_row(&mut random, 9, 1);
     access_row(&mut random, 9, 140);
     access_row(&mut random, 16, 256);
-    recording_rows(&mut random, 65_535, 16);
-    recording_rows(&mut random, 4_096, 256);
+    for (limit, count) in [(65_535, 16), (4_096, 256)] {
+        let shape = Shape { tasks: 9, objects: 140, accesses: limit / 3, limit };
+        recording_rows(&mut random, &shape, count);
+    }
+    // Short bodies: none, one, four and sixteen accesses for each task, on average.
+    for each in [0, 1, 4, 16] {
+        let shape = Shape { tasks: 16, objects: 16, accesses: 16 * each, limit: 65_535 };
+        recording_rows(&mut random, &shape, 256);
+    }
     let (objects, limit) = (140, 16 << 20);
     let large = record(&random.script(16, objects, limit / 10), limit);
     opening_rows("", &[&large.bytes], objects);
