@@ -2,6 +2,7 @@
 //! and run after the call, are compared. What was lent is left as the call leaves it.
 
 use crate::cases::{Cases, Openings};
+use crate::heads::Heads;
 use crate::ours::{self, Answer, State};
 use crate::peer::{number, reader, recorder, replayer};
 use crate::theirs;
@@ -35,26 +36,27 @@ fn same_state(what: &str, ours: &State, theirs: &recorder::State) -> Same {
 
 /// An answer's fields, in the order in which the library has them.
 fn same_answer(what: &str, ours: Answer, theirs: &[usize]) -> Same {
-    let mut fields = [0; 6];
+    let mut fields = [0; 7];
     fields[..theirs.len()].copy_from_slice(theirs);
     same(what, ours, fields)
 }
 
-/// Counts the calls, and the cases of `playable`, of openings and of values.
+/// Counts the calls, and the cases of `playable`, of openings, of values and of heads.
 #[derive(Default)]
 pub struct Both {
     pub answers: u64,
     pub cases: Cases,
     pub openings: Openings,
     pub values: Values,
+    pub heads: Heads,
 }
 
 impl Both {
-    /// The state where it is accepted; the head is then at the start of `out`.
+    /// The state where it is accepted; the head is then at the start of `out`. Without fields it is the opening of head 1.
     pub fn open(
         &mut self,
-        tasks: usize,
-        objects: usize,
+        [tasks, objects]: [usize; 2],
+        fields: Option<usize>,
         owners: &[u8],
         starts: &[u32],
         memory: &mut [u32],
@@ -62,9 +64,18 @@ impl Both {
     ) -> Same<Option<recorder::State>> {
         self.answers += 1;
         let (mut memory_2, mut out_2) = (memory.to_vec(), out.to_vec());
-        let (ours, state) = ours::open(tasks, objects, owners, starts, memory, out);
-        let theirs = recorder::open(tasks, objects, owners, starts, &mut memory_2, &mut out_2);
+        let (ours, state) = match fields {
+            None => ours::open(tasks, objects, owners, starts, memory, out),
+            Some(f) => ours::open_fields(tasks, objects, f, owners, starts, memory, out),
+        };
+        let theirs = match fields {
+            None => recorder::open(tasks, objects, owners, starts, &mut memory_2, &mut out_2),
+            Some(f) => {
+                recorder::open_fields(tasks, objects, f, owners, starts, &mut memory_2, &mut out_2)
+            }
+        };
         same_answer("open", ours, &[theirs.number as usize, theirs.written])?;
+        self.heads.opened(fields, theirs.number);
         same_state("open's state", &state, &theirs.state)?;
         same_list("open's memory", memory, &memory_2)?;
         same_list("open's output", out, &out_2)?;
@@ -75,7 +86,7 @@ impl Both {
     pub fn access(
         &mut self,
         state: &mut recorder::State,
-        [task, object]: [usize; 2],
+        [task, object, field]: [usize; 3],
         [sort, value]: [u32; 2],
         memory: &mut [u32],
         out: &mut [u8],
@@ -83,9 +94,20 @@ impl Both {
         self.answers += 1;
         let (mut memory_2, mut out_2) = (memory.to_vec(), out.to_vec());
         let mut linked = State::of(state);
-        let ours = ours::access(&mut linked, task, object, sort, value, memory, out);
-        let theirs =
-            recorder::access::<true>(state, task, object, sort, value, &mut memory_2, &mut out_2);
+        let place = [task, object, field];
+        let ours = ours::access(&mut linked, place, [sort, value], memory, out);
+        let before = (state.fields, memory_2.len());
+        let theirs = recorder::access::<true>(
+            state,
+            task,
+            object,
+            field,
+            sort,
+            value,
+            &mut memory_2,
+            &mut out_2,
+        );
+        self.heads.accessed(before, state.objects, &theirs);
         let fields = [
             theirs.number as usize,
             theirs.value as usize,
@@ -114,6 +136,7 @@ impl Both {
         let theirs = recorder::section(state, task, log, &mut out_2);
         let fields = [theirs.number as usize, theirs.offset, theirs.written];
         same_answer("section", ours, &fields)?;
+        self.heads.sectioned(state.fields, theirs.number);
         same_list("section's output", out, &out_2)?;
         Ok(theirs.written)
     }
@@ -137,6 +160,7 @@ impl Both {
         self.answers += 1;
         let theirs = reader::check(bytes);
         let fields = [theirs.number as usize, theirs.offset];
+        self.heads.checked(bytes, theirs);
         same_answer("check", ours::check(bytes), &fields)
     }
 
@@ -228,10 +252,12 @@ impl Both {
             theirs.offset,
             theirs.kind as usize,
             theirs.object,
+            theirs.field,
             theirs.value as usize,
             theirs.access as usize,
         ];
         same_answer("step", ours, &fields)?;
+        self.heads.stepped(run.fields, theirs.number);
         self.values.stepped(bytes, fields);
         same_list("step's run", &places, &ours::places_of(run))?;
         same_list("step's memory", memory, &memory_2)?;
@@ -253,6 +279,7 @@ impl Both {
             theirs.number == 0 && theirs::replay_to_end(bytes, &mut memory.clone())[4] != 0
         });
         self.values.compared(stopped, theirs.alike);
+        self.heads.compared([first, second], theirs.alike);
         same_list("same_outcome's first memory", one, &one_2)?;
         same_list("same_outcome's second memory", two, &two_2)
     }

@@ -4,6 +4,25 @@ use crate::inputs::{accesses_in, half_at};
 use crate::orderings::orderings_in;
 use crate::peer::replayer::Opened;
 
+/// How often each case was reached, by its name.
+#[derive(Default)]
+pub struct Counts(Vec<(&'static str, u64)>);
+
+impl Counts {
+    pub fn count(&mut self, name: &'static str, reached: bool) {
+        match self.0.iter_mut().find(|(counted, _)| *counted == name) {
+            Some((_, count)) => *count += u64::from(reached),
+            None => self.0.push((name, reached.into())),
+        }
+    }
+
+    pub fn print(&self, of: &str) {
+        for (name, count) in &self.0 {
+            println!("{of} {name:<36} {count:>9}");
+        }
+    }
+}
+
 /// Each case by its name.
 #[derive(Default)]
 pub struct Cases([(&'static str, u64); 17]);

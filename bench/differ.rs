@@ -2,7 +2,7 @@
 //! damaged bytes in between.
 
 use crate::both::{Both, Same};
-use crate::inputs::{accesses_in, objects_in};
+use crate::inputs::{accesses_in, cells_in, head_length};
 use crate::peer::{recorder, replayer};
 use crate::random::Random;
 
@@ -13,13 +13,20 @@ struct Script {
 
 /// Making a recording.
 impl Script {
+    /// Under head 7 with this number of fields, or under head 1.
     fn open(
         &mut self,
-        tasks: usize,
-        objects: usize,
+        [tasks, objects]: [usize; 2],
+        fields: Option<usize>,
     ) -> Same<Option<(recorder::State, Vec<u32>, Vec<u8>)>> {
         let r = &mut self.random;
-        let [owners, starts, memory] = [objects; 3].map(|n| r.length(n));
+        // Lists that are right but for F, where that is out of range.
+        let near = fields.map(|fields| fields.min(9));
+        let cells = objects * near.unwrap_or(1);
+        let [owners, starts, memory] = [objects, cells, cells].map(|n| {
+            let length = r.length(n);
+            r.mostly(80, length, objects)
+        });
         let mut owners = r.bytes(owners);
         if !r.once_in(40) {
             let tasks = tasks.clamp(1, 16) as u8;
@@ -27,13 +34,14 @@ impl Script {
         }
         let starts = r.words(starts);
         let mut memory = r.words(memory);
-        let head = 8 + 5 * objects;
+        let head = head_length(objects, near);
         let less = r.below(head);
         let room = r.mostly(20, head, less);
         let mut out = r.bytes(room);
+        let counts = [tasks, objects];
         let state = self
             .both
-            .open(tasks, objects, &owners, &starts, &mut memory, &mut out)?;
+            .open(counts, fields, &owners, &starts, &mut memory, &mut out)?;
         Ok(state.map(|state| (state, memory, out)))
     }
 
@@ -47,12 +55,13 @@ impl Script {
         let place = [
             r.index(state.tasks.min(16)),
             r.index(state.objects.min(256)),
+            r.index(state.fields.clamp(1, 8)),
         ];
         let (sort, other) = (r.word() & 1, r.half());
         let act = [r.mostly(60, sort, other), r.word()];
-        // 138 bytes are enough for any access.
-        let less = r.below(140);
-        let room = r.mostly(12, 140, less);
+        // 140 bytes are enough for any access.
+        let less = r.below(142);
+        let room = r.mostly(12, 142, less);
         let mut out = r.bytes(room);
         let written = self.both.access(state, place, act, memory, &mut out)?;
         out.truncate(written);
@@ -67,7 +76,8 @@ impl Script {
         for _ in 0..r.below(3) {
             r.bend_state(&mut state);
         }
-        let length = r.length(state.objects.min(300));
+        let length = r.length(state.objects.min(300) * state.fields.clamp(1, 9));
+        let length = r.mostly(20, length, state.objects.min(300));
         let mut memory = r.words(length);
         for _ in 0..3 {
             self.access(&mut state, &mut memory)?;
@@ -140,7 +150,12 @@ impl Script {
         let objects = r.below(most + 1);
         // None at all is rare.
         let least = [r.mostly(20, 1, 0), r.mostly(20, 1, 0)];
-        let opened = self.open(tasks.max(least[0]), objects.max(least[1]))?;
+        let few = 1 + r.below(8);
+        let any = r.next() as usize;
+        let outside = r.pick(&[0, 9, 9, 10, 257, any]);
+        let fields = Some(r.mostly(12, few, outside));
+        let fields = r.pick(&[None, fields, fields]);
+        let opened = self.open([tasks.max(least[0]), objects.max(least[1])], fields)?;
         let Some((mut state, mut memory, mut bytes)) = opened else {
             return Ok(None);
         };
@@ -180,7 +195,7 @@ impl Script {
         for _ in 0..r.below(3) {
             r.bend_run(&mut run, bytes.len());
         }
-        let length = r.length(run.objects.min(300));
+        let length = r.length(run.objects.min(300) * run.fields.clamp(1, 9));
         let mut memory = r.words(length);
         self.both.ready(&run, &bytes)?;
         let room = self.random.below(40);
@@ -228,10 +243,10 @@ impl Script {
         let mut out = self.random.bytes(room);
         self.both.body(bytes, task, &mut out)?;
         self.both.body_check(bytes, task)?;
-        let length = self.random.length(objects_in(bytes));
+        let length = self.random.length(cells_in(bytes));
         let mut memory = self.random.words(length);
         self.both.replay(bytes, &mut memory)?;
-        let length = self.random.length(objects_in(bytes));
+        let length = self.random.length(cells_in(bytes));
         let mut memory = self.random.words(length);
         match self.both.replay_open(bytes, &mut memory)? {
             Some(run) => self.steps(run, bytes, &mut memory),
@@ -241,13 +256,14 @@ impl Script {
 
     fn compare(&mut self, first: &[u8], second: &[u8]) -> Same {
         let r = &mut self.random;
-        let [one, two] = [first, second].map(|bytes| r.length(objects_in(bytes)));
+        let [one, two] = [first, second].map(|bytes| r.length(cells_in(bytes)));
         let (mut one, mut two) = (r.words(one), r.words(two));
         self.both
             .same_outcome([first, second], [&mut one, &mut two])
     }
 
-    /// A recording, a loose one, one of the two damaged, and each with a value changed and some reads without theirs.
+    /// A recording, a loose one, one of the two damaged, each with a value changed and some reads without theirs, and under a head that
+    /// is wrong.
     fn play(&mut self) -> Same {
         let loose = self.random.loose_recording();
         let recording = self.recording()?.unwrap_or_else(|| loose.clone());
@@ -259,11 +275,13 @@ impl Script {
         let mixed = self.random.without_values(&mixed);
         let mut bent = self.random.mostly(3, recording.clone(), mixed.clone());
         self.random.bend_value(&mut bent);
-        let all = [recording, loose, damaged, mixed, bent];
+        let headed = self.random.mostly(2, recording.clone(), loose.clone());
+        let headed = self.random.odd_head(&headed);
+        let all = [recording, loose, damaged, mixed, bent, headed];
         for bytes in &all {
             self.read(bytes)?;
         }
-        let (first, second) = (&all[self.random.below(5)], &all[self.random.below(5)]);
+        let (first, second) = (&all[self.random.below(6)], &all[self.random.below(6)]);
         self.compare(first, second)?;
         let twin = self.random.twin(first);
         self.compare(first, &twin)?;
@@ -313,7 +331,7 @@ impl Script {
             self.random.bend_section(&mut bent);
             self.random.damage(&mut damaged);
             for bytes in [whole, &bent, &damaged] {
-                for length in [objects_in(bytes), self.random.below(300)] {
+                for length in [cells_in(bytes), self.random.below(300)] {
                     let mut memory = self.random.words(length);
                     self.both.replay_open(bytes, &mut memory)?;
                 }
@@ -324,7 +342,7 @@ impl Script {
 }
 
 /// Scripts of the seeds from `seed` on; says how many calls were compared and what differs first, and if asked how often each case of
-/// `playable`, of openings and of values was reached. False where any differ.
+/// `playable`, of openings, of values and of heads was reached. False where any differ.
 pub fn run(seed: u64, count: u64, cases: bool) -> bool {
     let mut both = Both::default();
     let mut differ = 0;
@@ -344,6 +362,7 @@ pub fn run(seed: u64, count: u64, cases: bool) -> bool {
         both.cases.print();
         both.openings.print();
         both.values.print();
+        both.heads.print();
     }
     println!("{count} scripts, {} answers, {differ} differ", both.answers);
     differ == 0

@@ -1,12 +1,14 @@
 //! The proved library beside `peer.rs`, an implementation of the same calls from the papers. Both do the same work on the same bytes in
 //! this process: first a table of times, then random calls whose answers are compared.
 //!
-//! Arguments: the first script's seed and the number of scripts; then `cases`, to see how often each case of `playable`, of openings and
-//! of values was reached, or `texts FOLDER`, which only writes that many recordings with what the programs must write for them.
+//! Arguments: the first script's seed and the number of scripts; then `cases`, to see how often each case of `playable`, of openings, of
+//! values and of heads was reached, and `untimed`, to leave out the table; or `texts FOLDER`, which only writes that many recordings with
+//! what the programs must write for them.
 
 mod both;
 mod cases;
 mod differ;
+mod heads;
 mod inputs;
 mod orderings;
 mod ours;
@@ -33,8 +35,10 @@ fn main() {
             return;
         }
     }
-    let cases = words.last().is_some_and(|word| word == "cases");
-    table::print();
+    let [cases, untimed] = ["cases", "untimed"].map(|known| words.iter().any(|word| word == known));
+    if !untimed {
+        table::print();
+    }
     if !differ::run(seed, count, cases) {
         std::process::exit(1);
     }

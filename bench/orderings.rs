@@ -1,6 +1,6 @@
 //! Recordings for their orderings: playable or stuck, at random, and slow to play for the clock.
 
-use crate::inputs::{fields, half_at};
+use crate::inputs::{half_at, halves_of, head_start};
 use crate::peer::reader;
 use crate::random::Random;
 
@@ -26,24 +26,26 @@ pub fn orderings_in(bytes: &[u8]) -> Vec<(usize, usize)> {
 /// For each task its accesses, and for each access the orderings before it: source and number.
 type Plan = Vec<Vec<Vec<[usize; 2]>>>;
 
-/// A recording of one object, read and written in turn, with a value or without.
-fn recording_of(plan: &Plan) -> Vec<u8> {
-    let mut bytes = fields(&[13, 1, plan.len(), 1]);
-    bytes.extend([0; 5]);
+/// A recording of one object, read and written in turn, with a value or without; under head 7 its fields in turn.
+fn recording_of(plan: &Plan, fields: usize) -> Vec<u8> {
+    let mut bytes = head_start(plan.len(), 1, fields);
+    bytes.resize(bytes.len() + 1 + 4 * fields.max(1), 0);
     for (task, accesses) in plan.iter().enumerate() {
         let mut body = Vec::new();
         for (k, orderings) in accesses.iter().enumerate() {
             for &[source, number] in orderings {
-                body.extend(fields(&[8, 3, source, number]));
+                body.extend(halves_of(&[8, 3, source, number]));
             }
-            body.extend(match k % 3 {
-                0 => fields(&[6, 4, 0]),
-                1 => fields(&[10, 5, 0, k % 2, 0]),
-                _ => fields(&[10, 6, 0, task % 2, 0]),
+            body.extend(match (k % 3, fields) {
+                (0, 0) => halves_of(&[6, 4, 0]),
+                (1, 0) => halves_of(&[10, 5, 0, k % 2, 0]),
+                (_, 0) => halves_of(&[10, 6, 0, task % 2, 0]),
+                (2, _) => halves_of(&[12, 8, 0, k % fields, task % 2, 0]),
+                _ => halves_of(&[12, 9, 0, k % fields, k % 2, 0]),
             });
         }
         let size = body.len();
-        bytes.extend(fields(&[12, 2, task, accesses.len(), size, size >> 16]));
+        bytes.extend(halves_of(&[12, 2, task, accesses.len(), size, size >> 16]));
         bytes.extend(body);
     }
     bytes
@@ -96,7 +98,8 @@ impl Random {
         if self.once_in(3) {
             self.close_circle(&mut plan);
         }
-        recording_of(&plan)
+        let fields = self.pick(&[0, 0, 1, 3]);
+        recording_of(&plan, fields)
     }
 
     /// Other numbers in some orderings; bytes that read still do.
@@ -110,15 +113,15 @@ impl Random {
             let within = 1 + self.below(most.max(1));
             let beyond = (most + 1 + self.below(3)).min(65_535);
             match self.below(4) {
-                0 => bytes[at + 6..at + 8].copy_from_slice(&fields(&[beyond])),
-                1 => bytes[at + 6..at + 8].copy_from_slice(&fields(&[within])),
+                0 => bytes[at + 6..at + 8].copy_from_slice(&halves_of(&[beyond])),
+                1 => bytes[at + 6..at + 8].copy_from_slice(&halves_of(&[within])),
                 _ => (6..8).for_each(|i| bytes.swap(at + i, other + i)),
             }
         }
     }
 }
 
-/// Recordings of 16 tasks on which a careless `playable` would be slow.
+/// Recordings of 16 tasks, under head 1, on which a careless `playable` would be slow.
 pub mod slow {
     use super::{recording_of, Plan};
 
@@ -127,14 +130,14 @@ pub mod slow {
         let all = (held..16).flat_map(|source| (1..=each).map(move |number| [source, number]));
         let mut plan = vec![vec![all.collect()]; held];
         plan.resize(16, vec![Vec::new(); each]);
-        recording_of(&plan)
+        recording_of(&plan, 0)
     }
 
     /// Each task below 15 has one access, after the last of `each` accesses of task 15: all of them wait at every step.
     pub fn waiting(each: usize) -> Vec<u8> {
         let mut plan = vec![vec![vec![[15, each]]]; 15];
         plan.push(vec![Vec::new(); each]);
-        recording_of(&plan)
+        recording_of(&plan, 0)
     }
 
     /// The k-th access of each task is after the k-th of the task before it, and task 0's next is after that of task 15.
@@ -149,13 +152,13 @@ pub mod slow {
     }
 
     pub fn in_turn(each: usize) -> Vec<u8> {
-        recording_of(&turns(each))
+        recording_of(&turns(each), 0)
     }
 
     /// In turn, but the last accesses of tasks 14 and 15 wait for each other.
     pub fn stuck(each: usize) -> Vec<u8> {
         let mut plan = turns(each);
         plan[14][each - 1].push([15, each]);
-        recording_of(&plan)
+        recording_of(&plan, 0)
     }
 }

@@ -2,7 +2,7 @@
 //! between: an opening sets the memory, and what is written over is the same each time.
 
 use crate::both::Both;
-use crate::inputs::{accesses_in, Script};
+use crate::inputs::{accesses_in, head_length, Script};
 use crate::orderings::slow;
 use crate::peer::{reader, recorder};
 use crate::random::Random;
@@ -13,8 +13,8 @@ use std::time::Instant;
 /// For each row: others may hold the machine for a part of it.
 const SECONDS: f64 = 1.5;
 
-/// Room for any access: an ordering for each of 16 tasks, and a write.
-const ACCESS_BYTES: usize = 138;
+/// Room for any access: an ordering for each of 16 tasks, and a write with its field.
+const ACCESS_BYTES: usize = 140;
 
 /// A recording, and what its sections are packed from: task t's log ends in `logs` at `ends[t]`.
 struct Recording {
@@ -32,20 +32,22 @@ fn record(script: &Script, limit: usize) -> Recording {
     let (owners, starts) = (&script.owners, &script.starts);
     let mut memory = starts.clone();
     let mut out = vec![0; limit];
-    let opened = both.open(tasks, objects, owners, starts, &mut memory, &mut out);
+    let fields = (script.fields != 0).then_some(script.fields);
+    let opened = both.open([tasks, objects], fields, owners, starts, &mut memory, &mut out);
     let mut state = opened.expect(same).expect("it is accepted");
-    let mut bytes = out[..8 + 5 * objects].to_vec();
+    let mut bytes = out[..head_length(objects, fields)].to_vec();
     let mut room = limit - bytes.len() - 12 * tasks;
     let mut pieces = vec![Vec::new(); tasks];
-    for x in script.accesses.chunks_exact(4) {
-        // The longest piece: 15 orderings and a write.
-        if room < 130 {
+    // The longest piece: 15 orderings and a write.
+    let longest = 15 * 8 + if fields.is_some() { 12 } else { 10 };
+    for x in script.accesses.chunks_exact(5) {
+        if room < longest {
             break;
         }
-        let (task, object) = (x[0] as usize, x[1] as usize);
-        let act = [x[2], x[3]];
+        let [task, object, field] = [x[0], x[1], x[2]].map(|n| n as usize);
+        let act = [x[3], x[4]];
         let piece = &mut out[..ACCESS_BYTES];
-        let written = both.access(&mut state, [task, object], act, &mut memory, piece);
+        let written = both.access(&mut state, [task, object, field], act, &mut memory, piece);
         let written = written.expect(same);
         pieces[task].extend_from_slice(&out[..written]);
         room -= written;
@@ -92,13 +94,14 @@ fn row(work: &str, unit: &str, scale: f64, times: &[f64], other: &str) {
 }
 
 /// Accesses that are all accepted. With one object the tasks take it from each other, and seven accesses of eight write orderings
-/// (rows 5 to 10); with 140 or 256 objects it is three of eight.
-fn access_row(random: &mut Random, tasks: usize, objects: usize) {
+/// (rows 5 to 10); with 140 or 256 cells it is three of eight, with 2,048 one of three. Fields 0 is the opening of head 1.
+fn access_row(random: &mut Random, tasks: usize, objects: usize, fields: usize) {
     let count = 4000;
-    let script = random.script(tasks, objects, count);
-    let mut memory = vec![0; objects];
+    let script = random.script(tasks, objects, fields, count);
+    let mut memory = vec![0; script.starts.len()];
+    let head = head_length(objects, (fields != 0).then_some(fields));
     // The head of one object is shorter than an access with its orderings, and a refused access would be timed.
-    let mut out = vec![0; (8 + 5 * objects).max(ACCESS_BYTES)];
+    let mut out = vec![0; head.max(ACCESS_BYTES)];
     let (mut memory_2, mut out_2) = (memory.clone(), out.clone());
     let (mut memory_3, mut out_3) = (memory.clone(), out.clone());
     let times = best([
@@ -106,7 +109,10 @@ fn access_row(random: &mut Random, tasks: usize, objects: usize) {
         &mut || theirs::script::<true>(black_box(&script), &mut memory_2, &mut out_2),
         &mut || theirs::script::<false>(black_box(&script), &mut memory_3, &mut out_3),
     ]);
-    let work = format!("access, N = {objects}, T = {tasks}");
+    let work = match fields {
+        0 => format!("access, N = {objects}, T = {tasks}"),
+        _ => format!("access, N = {objects}, F = {fields}, T = {tasks}"),
+    };
     let scale = 1e9 / count as f64;
     // The other way of theirs and the ratio to it.
     let other = format!(
@@ -121,6 +127,8 @@ fn access_row(random: &mut Random, tasks: usize, objects: usize) {
 struct Shape {
     tasks: usize,
     objects: usize,
+    /// 0 for head 1.
+    fields: usize,
     accesses: usize,
     limit: usize,
 }
@@ -136,9 +144,10 @@ fn unit_for(size: usize) -> (&'static str, f64) {
 
 /// Many recordings, so that no branch predictor learns them: a call does all of them, and a figure is for one.
 fn recording_rows(random: &mut Random, shape: &Shape, count: usize) {
-    let (tasks, objects) = (shape.tasks, shape.objects);
+    let (tasks, objects, fields) = (shape.tasks, shape.objects, shape.fields);
+    let cells = objects * fields.max(1);
     let recordings: Vec<Recording> = (0..count)
-        .map(|_| record(&random.script(tasks, objects, shape.accesses), shape.limit))
+        .map(|_| record(&random.script(tasks, objects, fields, shape.accesses), shape.limit))
         .collect();
     let size = recordings.iter().map(|r| r.bytes.len()).sum::<usize>() / count;
     let states: Vec<ours::State> = recordings.iter().map(|r| ours::State::of(&r.state)).collect();
@@ -162,14 +171,18 @@ fn recording_rows(random: &mut Random, shape: &Shape, count: usize) {
         },
     ]);
     assert!(out == out_2);
-    row(&format!("{tasks} sections, {size} bytes"), unit, scale, &times, "");
+    let head = match fields {
+        0 => String::new(),
+        _ => format!(", F = {fields}"),
+    };
+    row(&format!("{tasks} sections{head}, {size} bytes"), unit, scale, &times, "");
 
     let whole: Vec<&[u8]> = recordings.iter().map(|r| &r.bytes[..]).collect();
-    opening_rows("", &whole, objects);
+    opening_rows(&head, &whole, cells);
     // Branches learn this one.
-    opening_rows(" of one again and again", &whole[..1], objects);
+    opening_rows(&format!("{head} of one again and again"), &whole[..1], cells);
 
-    let mut memory = vec![0; objects];
+    let mut memory = vec![0; cells];
     let mut memory_2 = memory.clone();
     let times = best([
         &mut || {
@@ -184,7 +197,7 @@ fn recording_rows(random: &mut Random, shape: &Shape, count: usize) {
         },
     ]);
     assert!(memory == memory_2);
-    row(&format!("replay to the end, {size} bytes"), unit, scale, &times, "");
+    row(&format!("replay to the end{head}, {size} bytes"), unit, scale, &times, "");
 
     let times = best([
         &mut || {
@@ -199,14 +212,14 @@ fn recording_rows(random: &mut Random, shape: &Shape, count: usize) {
         },
     ]);
     assert!(memory == memory_2);
-    row(&format!("replay by word, {size} bytes"), unit, scale, &times, "");
+    row(&format!("replay by word{head}, {size} bytes"), unit, scale, &times, "");
 
-    playable_row("playable", &whole);
+    playable_row(&format!("playable{head}"), &whole);
 }
 
 /// The check and the replay opening; a figure is for one recording. An opening reads every byte once, so the time to copy them stands
 /// beside it, with the ratio of ours to that.
-fn opening_rows(which: &str, recordings: &[&[u8]], objects: usize) {
+fn opening_rows(which: &str, recordings: &[&[u8]], cells: usize) {
     let count = recordings.len();
     let size = recordings.iter().map(|bytes| bytes.len()).sum::<usize>() / count;
     let (unit, second) = unit_for(size);
@@ -218,7 +231,7 @@ fn opening_rows(which: &str, recordings: &[&[u8]], objects: usize) {
     ]);
     row(&format!("check{which}, {size} bytes"), unit, scale, &times, "");
 
-    let mut memory = vec![0; objects];
+    let mut memory = vec![0; cells];
     let mut memory_2 = memory.clone();
     let longest = all.iter().map(|bytes| bytes.len()).max();
     let mut copy = vec![0; longest.unwrap_or(0)];
@@ -289,24 +302,33 @@ pub fn print() {
         "", "ours", "theirs", "", "ratio", "theirs", "ratio"
     );
     let mut random = Random(1);
-    access_row(&mut random, 9, 1);
-    access_row(&mut random, 9, 140);
-    access_row(&mut random, 16, 256);
+    for (tasks, objects, fields) in [(9, 1, 0), (9, 140, 0), (16, 256, 0)] {
+        access_row(&mut random, tasks, objects, fields);
+    }
     for (limit, count) in [(65_535, 16), (4_096, 256)] {
-        let shape = Shape { tasks: 9, objects: 140, accesses: limit / 3, limit };
+        let shape = Shape { tasks: 9, objects: 140, fields: 0, accesses: limit / 3, limit };
         recording_rows(&mut random, &shape, count);
     }
     // Short bodies: none, one, four and sixteen accesses for each task, on average.
     for each in [0, 1, 4, 16] {
-        let shape = Shape { tasks: 16, objects: 16, accesses: 16 * each, limit: 65_535 };
+        let shape = Shape { tasks: 16, objects: 16, fields: 0, accesses: 16 * each, limit: 65_535 };
         recording_rows(&mut random, &shape, 256);
     }
     let (objects, limit) = (140, 16 << 20);
-    let large = record(&random.script(16, objects, limit / 10), limit);
+    let large = record(&random.script(16, objects, 0, limit / 10), limit);
     opening_rows("", &[&large.bytes], objects);
     slow_rows("1 held", 271, |each| slow::held(1, each));
     slow_rows("14 held", 271, |each| slow::held(14, each));
     slow_rows("15 waiting", 8_100, slow::waiting);
     slow_rows("in turn", 255, slow::in_turn);
     slow_rows("stuck", 255, slow::stuck);
+    // Under head 7; after the rows of head 1, so that their scripts stay what they were.
+    for (objects, fields) in [(140, 1), (256, 1), (256, 8)] {
+        access_row(&mut random, 16, objects, fields);
+    }
+    for (objects, fields) in [(140, 1), (140, 4)] {
+        let limit = 65_535;
+        let shape = Shape { tasks: 9, objects, fields, accesses: limit / 3, limit };
+        recording_rows(&mut random, &shape, 16);
+    }
 }

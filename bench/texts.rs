@@ -6,7 +6,7 @@ use crate::peer::{replay_text, show_text};
 use crate::random::Random;
 use std::path::Path;
 
-/// A recording whose orderings or values may be wrong, now and then damaged, rarely too long.
+/// A recording whose orderings, values or head may be wrong, now and then damaged, rarely too long.
 fn recording(random: &mut Random) -> Vec<u8> {
     let mut bytes = match random.below(3) {
         0 => random.planned_recording(),
@@ -17,6 +17,9 @@ fn recording(random: &mut Random) -> Vec<u8> {
     }
     if random.once_in(3) {
         random.bend_value(&mut bytes);
+    }
+    if random.once_in(8) {
+        bytes = random.odd_head(&bytes);
     }
     if random.once_in(3) {
         random.damage(&mut bytes);

@@ -18,9 +18,10 @@ fn access_word(a: &recorder::Accessed) -> u64 {
 
 fn step_word(task: usize, s: &replayer::Step) -> u64 {
     let above = (task as u64 % 16)
-        + 16 * u64::from(s.kind % 8)
-        + 128 * (s.object as u64 % 256)
-        + 32_768 * (u64::from(s.access) % 2048);
+        + 16 * u64::from(s.kind % 16)
+        + 256 * (s.object as u64 % 256)
+        + 65_536 * (s.field as u64 % 8)
+        + 524_288 * (u64::from(s.access) % 128);
     u64::from(s.value) + (above << 32)
 }
 
@@ -28,11 +29,15 @@ fn step_word(task: usize, s: &replayer::Step) -> u64 {
 #[inline(never)]
 pub fn script<const CHECK: bool>(script: &Script, memory: &mut [u32], out: &mut [u8]) -> u64 {
     let (owners, starts) = (&script.owners, &script.starts);
-    let opened = recorder::open(script.tasks, owners.len(), owners, starts, memory, out);
+    let (tasks, objects) = (script.tasks, owners.len());
+    let opened = match script.fields {
+        0 => recorder::open(tasks, objects, owners, starts, memory, out),
+        fields => recorder::open_fields(tasks, objects, fields, owners, starts, memory, out),
+    };
     let mut state = opened.state;
-    script.accesses.chunks_exact(4).fold(0, |digest, x| {
-        let (task, object) = (x[0] as usize, x[1] as usize);
-        let a = recorder::access::<CHECK>(&mut state, task, object, x[2], x[3], memory, out);
+    script.accesses.chunks_exact(5).fold(0, |digest, x| {
+        let [task, object, field] = [x[0], x[1], x[2]].map(|n| n as usize);
+        let a = recorder::access::<CHECK>(&mut state, task, object, field, x[3], x[4], memory, out);
         mixed(digest, access_word(&a))
     })
 }
@@ -124,11 +129,20 @@ pub fn finished(run: &replayer::Run, bytes: &[u8]) -> [usize; 2] {
     [number, done.into()]
 }
 
+/// The cell and the value of a read that has its value.
+fn read_at(bytes: &[u8], at: usize, fields: usize) -> (usize, u32) {
+    let object = half_at(bytes, at + 4);
+    match fields {
+        0 => (object, word_at(bytes, at + 6)),
+        _ => (object * fields + half_at(bytes, at + 6), word_at(bytes, at + 8)),
+    }
+}
+
 /// The lowest ready task, stepped again and again, as often as there is room. The order does not look at values: a read that is not done
 /// is tried again with its record's value in the memory.
 pub fn schedule(run: &replayer::Run, bytes: &[u8], room: usize) -> Vec<u8> {
     let (mut run, mut tasks) = (run.clone(), Vec::new());
-    let mut memory = vec![0; run.objects.min(256)];
+    let mut memory = vec![0; run.objects.min(256) * run.fields.clamp(1, 8)];
     while tasks.len() < room {
         let word = replayer::ready(&run, bytes).word;
         if word == 0 {
@@ -137,7 +151,8 @@ pub fn schedule(run: &replayer::Run, bytes: &[u8], room: usize) -> Vec<u8> {
         let task = replayer::lowest_ready(word) as usize;
         let mut s = replayer::step(&mut run, bytes, &mut memory, task);
         if s.number == number::READ_DIFFERS {
-            memory[half_at(bytes, s.offset + 4)] = word_at(bytes, s.offset + 6);
+            let (cell, value) = read_at(bytes, s.offset, run.fields);
+            memory[cell] = value;
             s = replayer::step(&mut run, bytes, &mut memory, task);
         }
         assert_eq!(s.number, 0, "the step of a ready task");

@@ -37,7 +37,8 @@ static void accepted(const char *call, const size_t answer[WK_ANSWER])
 static void record(size_t task, size_t object, uint32_t sort, uint32_t value)
 {
     size_t answer[WK_ANSWER];
-    wk_access(state.halves, state.words, task, object, sort, value, memory, OBJECTS, logs[task] + log_len[task],
+    /* wk_open gives each object one field, field 0. */
+    wk_access(state.halves, state.words, task, object, 0, sort, value, memory, OBJECTS, logs[task] + log_len[task],
               LOG_BYTES - log_len[task], answer);
     accepted("wk_access", answer);
     log_len[task] += answer[WK_ACCESS_WRITTEN];

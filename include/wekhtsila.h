@@ -31,31 +31,40 @@
 extern "C" {
 #endif
 
-/* Limits. */
+/*
+ * Limits. Every object has the same number of fields, and each field of an object is a cell: a value of 32 bits with a state of its own,
+ * so that an access to one orders nothing of another. Cells are numbered object by object: cell object * fields + field. A recording
+ * that wk_open opened, or one with head WK_KIND_HEAD, has one field for each object, field 0, and the cell is the object.
+ */
 #define WK_MAX_TASKS 16       /* tasks, numbered from 0 */
-#define WK_MAX_OBJECTS 256    /* objects, numbered from 0, each with a value of 32 bits */
+#define WK_MAX_OBJECTS 256    /* objects, numbered from 0 */
+#define WK_MAX_FIELDS 8       /* fields of an object, numbered from 0 */
+#define WK_MAX_CELLS 2048     /* values that a memory has at most: fields of all objects */
 #define WK_MAX_ACCESSES 65535 /* accesses of one task */
 
 /* Entries of the arrays that a caller lends. */
-#define WK_HALVES 548 /* uint16_t: the first part of a recorder's state */
-#define WK_WORDS 273  /* uint32_t: the second part */
-#define WK_PLACES 66  /* size_t: a replay's run */
-#define WK_ANSWER 6   /* size_t: what a call answers */
+#define WK_HALVES 4133 /* uint16_t: the first part of a recorder's state */
+#define WK_WORDS 2065  /* uint32_t: the second part */
+#define WK_PLACES 67   /* size_t: a replay's run */
+#define WK_ANSWER 7    /* size_t: what a call answers */
 
 /* Bytes of output. */
 #define WK_HEAD_BYTES(objects) (8 + 5 * (size_t)(objects)) /* wk_open */
-#define WK_ACCESS_BYTES 138  /* wk_access: room for any: an ordering for each of 16 tasks and the access */
+#define WK_FIELD_HEAD_BYTES(objects, fields) (10 + (size_t)(objects) * (1 + 4 * (size_t)(fields))) /* wk_open_fields */
+#define WK_ACCESS_BYTES 140  /* wk_access: room for any: an ordering for each of 16 tasks and the access */
 #define WK_SECTION_BYTES 12  /* wk_section, wk_pack: for each task, and the bytes of its log */
 #define WK_ORDERING_BYTES 8
 #define WK_READ_BYTES 6         /* a read without its value, which is no longer written */
-#define WK_VALUED_READ_BYTES 10 /* a read */
-#define WK_WRITE_BYTES 10
+#define WK_VALUED_READ_BYTES 10 /* a read, where wk_open opened */
+#define WK_WRITE_BYTES 10       /* a write there */
+#define WK_FIELD_READ_BYTES 12  /* a read, where wk_open_fields opened */
+#define WK_FIELD_WRITE_BYTES 12 /* a write there */
 
 /* The number table. */
 #define WK_ACCEPTED 0
 #define WK_ERR_TASK_RANGE 1   /* tasks are not 1 to 16 */
 #define WK_ERR_OBJECT_RANGE 2 /* objects are not 1 to 256 */
-#define WK_ERR_ENTRIES 3      /* a list or the memory has not one entry for each object */
+#define WK_ERR_ENTRIES 3      /* the owners are not one for each object, or starts or memory not one for each cell */
 #define WK_ERR_OWNER_RANGE 4  /* an owner is no task */
 #define WK_ERR_NO_TASK 5      /* no such task */
 #define WK_ERR_NO_OBJECT 6    /* no such object */
@@ -72,6 +81,7 @@ extern "C" {
 #define WK_ERR_UNSOUND 17     /* the state or run that was passed in is not one that the library made */
 #define WK_ERR_NO_ORDER 18    /* no order of all accesses keeps each task's own order and every ordering */
 #define WK_ERR_DIFFERS 19     /* the memory differs from the value in the read's record */
+#define WK_ERR_NO_FIELD 20    /* fields are not 1 to 8, or no such field */
 #define WK_ERR_ENDS 21        /* wk_pack: the ends fall, pass the logs or are not one for each task */
 
 /* The sort of an access. */
@@ -85,34 +95,43 @@ extern "C" {
 #define WK_CLASS_FENCE 3       /* row 6 */
 #define WK_CLASS_CONFLICTING 4 /* rows 7 to 10 */
 
-/* Kinds of records. A step answers WK_KIND_READ, WK_KIND_VALUED_READ or WK_KIND_WRITE. */
+/*
+ * Kinds of records. A step answers that of its access. The head decides which accesses stand behind it: 4 to 6 behind WK_KIND_HEAD, 8 and
+ * 9 behind WK_KIND_FIELD_HEAD.
+ */
 #define WK_KIND_HEAD 1
 #define WK_KIND_SECTION 2
 #define WK_KIND_ORDERING 3
 #define WK_KIND_READ 4 /* without its value: still read, no longer written */
 #define WK_KIND_WRITE 5
 #define WK_KIND_VALUED_READ 6
+#define WK_KIND_FIELD_HEAD 7  /* a head with the number of fields */
+#define WK_KIND_FIELD_READ 8  /* a read with its field and value */
+#define WK_KIND_FIELD_WRITE 9 /* a write with its field */
 
 /*
  * What may be looked at in the arrays of a state or a run. All else in them is the library's own. Nothing in them is for a caller to
  * write: a call refuses arrays that mean nothing with WK_ERR_UNSOUND, but numbers that happen to mean another state are taken.
  * The arrays hold no addresses, so they may be copied, kept and put back.
  */
-#define WK_HALVES_TASKS 0    /* halves[0]: tasks */
-#define WK_HALVES_OBJECTS 1  /* halves[1]: objects */
-#define WK_HALVES_DONE 4     /* halves[4 + task]: accesses that it has made */
-#define WK_HALVES_CASE 36    /* halves[36 + object]: 0 write-held, 1 read-held, 2 shared */
-#define WK_HALVES_HOLDER 292 /* halves[292 + object]: the task that holds it, where it is not shared */
-#define WK_PLACES_TASKS 0    /* places[0]: tasks */
-#define WK_PLACES_OBJECTS 1  /* places[1]: objects */
-#define WK_PLACES_DONE(task) (4 + 4 * (size_t)(task))  /* accesses that a task has played */
-#define WK_PLACES_COUNT(task) (5 + 4 * (size_t)(task)) /* accesses that its section has */
+#define WK_HALVES_TASKS 0     /* halves[0]: tasks */
+#define WK_HALVES_OBJECTS 1   /* halves[1]: objects */
+#define WK_HALVES_FIELDS 2    /* halves[2]: 0 where wk_open opened, else the fields of each object */
+#define WK_HALVES_DONE 5      /* halves[5 + task]: accesses that it has made */
+#define WK_HALVES_CASE 37     /* halves[37 + cell]: 0 write-held, 1 read-held, 2 shared */
+#define WK_HALVES_HOLDER 2085 /* halves[2085 + cell]: the task that holds it, where it is not shared */
+#define WK_PLACES_TASKS 0     /* places[0]: tasks */
+#define WK_PLACES_OBJECTS 1   /* places[1]: objects */
+#define WK_PLACES_FIELDS 2    /* places[2]: 0 behind WK_KIND_HEAD, else the fields of each object */
+#define WK_PLACES_DONE(task) (5 + 4 * (size_t)(task))  /* accesses that a task has played */
+#define WK_PLACES_COUNT(task) (6 + 4 * (size_t)(task)) /* accesses that its section has */
 
 /* ---- Making a recording ---- */
 
 /*
- * Opens a recording with this number of tasks and objects: sets the memory to the starting values, writes the head to the start of `out`
- * (WK_HEAD_BYTES), and puts the state into the arrays. `owners`, `starts` and `memory` have one entry for each object.
+ * Opens a recording with this number of tasks and objects, each with one field: sets the memory to the starting values, writes the head
+ * to the start of `out` (WK_HEAD_BYTES), and puts the state into the arrays. `owners`, `starts` and `memory` have one entry for each
+ * object.
  * Refused with 1, 2, 3, 4, 9 in this order; the arrays are then all zero, which no later call takes.
  */
 #define WK_OPEN_NUMBER 0
@@ -122,17 +141,30 @@ void wk_open(size_t tasks, size_t objects, const uint8_t *owners, size_t owners_
              size_t answer[WK_ANSWER]);
 
 /*
- * One access: reads or writes `memory` at the object, moves the state on, and writes the access with the orderings before it to the
- * start of `out`. The caller appends these bytes to the task's log. The value passed with a read is ignored.
- * Refused with 17, 5, 6, 7, 8, 3, 9 in this order; state, memory and output are then as before, and the call may be made again.
+ * The same with this number of fields for each object: `owners` has an entry for each object, `starts` and `memory` have one for each
+ * cell, object by object. The head takes WK_FIELD_HEAD_BYTES. An object's cells are all first held by its owner.
+ * Refused with 1, 2, 20, 3, 4, 9 in this order; the arrays are then all zero.
+ */
+#define WK_OPEN_FIELDS_NUMBER 0
+#define WK_OPEN_FIELDS_WRITTEN 1 /* bytes of the head */
+void wk_open_fields(size_t tasks, size_t objects, size_t fields, const uint8_t *owners, size_t owners_len, const uint32_t *starts,
+                    size_t starts_len, uint32_t *memory, size_t memory_len, uint8_t *out, size_t out_len, uint16_t halves[WK_HALVES],
+                    uint32_t words[WK_WORDS], size_t answer[WK_ANSWER]);
+
+/*
+ * One access: reads or writes `memory` at the object's field, moves the state on, and writes the access with the orderings before it to
+ * the start of `out`. The caller appends these bytes to the task's log. The value passed with a read is ignored. Where wk_open opened,
+ * the field is 0. `memory` has an entry for each cell.
+ * Refused with 17, 5, 6, 20, 7, 8, 3, 9 in this order; state, memory and output are then as before, and the call may be made again.
  */
 #define WK_ACCESS_NUMBER 0
 #define WK_ACCESS_VALUE 1 /* the value read or written */
 #define WK_ACCESS_ROW 2   /* 1 to 10 */
 #define WK_ACCESS_CLASS 3 /* WK_CLASS_ */
 #define WK_ACCESS_WRITTEN 4
-void wk_access(uint16_t halves[WK_HALVES], uint32_t words[WK_WORDS], size_t task, size_t object, uint32_t sort, uint32_t value,
-               uint32_t *memory, size_t memory_len, uint8_t *out, size_t out_len, size_t answer[WK_ANSWER]);
+void wk_access(uint16_t halves[WK_HALVES], uint32_t words[WK_WORDS], size_t task, size_t object, size_t field,
+               uint32_t sort, uint32_t value, uint32_t *memory, size_t memory_len, uint8_t *out, size_t out_len,
+               size_t answer[WK_ANSWER]);
 
 /*
  * One task's section of the finished recording: checks the task's whole log and writes the section record and the log to the start
@@ -179,7 +211,7 @@ void wk_body_check(const uint8_t *bytes, size_t bytes_len, size_t task, size_t a
 
 /*
  * Opens a replay: checks the bytes and counts the records in one pass, sets the memory to the starting values, and `places` holds the
- * run. `memory` has an entry for each object. Refused with 10 to 14, 3; `places` is then all zero, which no later call takes.
+ * run. `memory` has an entry for each cell. Refused with 10 to 14, 3; `places` is then all zero, which no later call takes.
  */
 #define WK_REPLAY_OPEN_NUMBER 0
 #define WK_REPLAY_OPEN_OFFSET 1
@@ -202,10 +234,11 @@ void wk_ready(const size_t places[WK_PLACES], const uint8_t *bytes, size_t bytes
  */
 #define WK_STEP_NUMBER 0
 #define WK_STEP_OFFSET 1 /* with 11 to 14, and with 19 the read's record */
-#define WK_STEP_KIND 2   /* WK_KIND_READ, WK_KIND_VALUED_READ or WK_KIND_WRITE */
+#define WK_STEP_KIND 2   /* of the access's record: WK_KIND_ 4 to 6, 8 or 9 */
 #define WK_STEP_OBJECT 3
-#define WK_STEP_VALUE 4
-#define WK_STEP_ACCESS 5 /* the number of the access, from 1 for each task */
+#define WK_STEP_FIELD 4  /* 0 behind WK_KIND_HEAD */
+#define WK_STEP_VALUE 5
+#define WK_STEP_ACCESS 6 /* the number of the access, from 1 for each task */
 void wk_step(size_t places[WK_PLACES], const uint8_t *bytes, size_t bytes_len, uint32_t *memory, size_t memory_len, size_t task,
              size_t answer[WK_ANSWER]);
 
@@ -247,8 +280,8 @@ void wk_playable(const uint8_t *bytes, size_t bytes_len, uint8_t *out, size_t ou
 
 /*
  * Plays two recordings to their ends, each on a memory of its own, and says whether both finish with the same tasks, objects, steps
- * and memory. A replay that ends at a read whose record the memory differs from has not finished. Refused with 10 to 14 for the first,
- * 10 to 14 for the second, 3.
+ * and memory. Another number of fields is another memory; with one field the heads may differ. A replay that ends at a read whose record
+ * the memory differs from has not finished. Refused with 10 to 14 for the first, 10 to 14 for the second, 3.
  */
 #define WK_SAME_OUTCOME_NUMBER 0
 #define WK_SAME_OUTCOME_OFFSET 1 /* in the recording that is refused */

@@ -1,4 +1,5 @@
 pub mod Bit
+pub mod Cell
 pub mod Decode
 pub mod Encode
 pub mod Field

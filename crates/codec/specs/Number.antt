@@ -9,7 +9,7 @@ taskRange = 1
 abbrev pub objectRange : ℕ
 objectRange = 2
 
--- a list or memory not of N entries
+-- a list of owners not of N entries, or starts or a memory not of N times F
 abbrev pub entries : ℕ
 entries = 3
 
@@ -80,6 +80,10 @@ noOrder = 18
 -- the memory differs from the value in the read's record (document 02, F-3)
 abbrev pub differs : ℕ
 differs = 19
+
+-- F not 1 to 8, or a field not below F (document 02, F-6)
+abbrev pub noField : ℕ
+noField = 20
 
 -- the ends of the logs decrease, go past the logs, or are not T in number (document 02, F-8)
 abbrev pub ends : ℕ

@@ -4,7 +4,7 @@
 pub const TASK_RANGE: u32 = 1;
 // 2: N not 1 to 256.
 pub const OBJECT_RANGE: u32 = 2;
-// 3: a list or memory not of N entries.
+// 3: a list of owners not of N entries, or starts or a memory not of N times F.
 pub const ENTRIES: u32 = 3;
 // 4: an owner not below T.
 pub const OWNER_RANGE: u32 = 4;
@@ -38,5 +38,7 @@ pub const UNSOUND: u32 = 17;
 pub const NO_ORDER: u32 = 18;
 // 19: the memory differs from the value in the read's record (document 02, F-3).
 pub const DIFFERS: u32 = 19;
+// 20: F not 1 to 8, or a field not below F (document 02, F-6).
+pub const NO_FIELD: u32 = 20;
 // 21: the ends of the logs decrease, go past the logs, or are not T in number (document 02, F-8).
 pub const ENDS: u32 = 21;

@@ -5,7 +5,7 @@ use lib.Dec.{eqb}
 use Rattle.lines.specs.Asked.{isNumber}
 use Rattle.lines.specs.Fields.{readField, writeField}
 use Rattle.faults.specs.declared.expected.Expected.{Expected}
-use Rattle.faults.specs.declared.expected.Expected.the-variants.{Tasks, Objects, Owner, Start, Task, Letter, ReadObject, WriteObject, Value, End}
+use Rattle.faults.specs.declared.expected.Expected.the-variants.{Tasks, Objects, Fields, Owner, Start, Task, Letter, ReadObject, WriteObject, ReadField, WriteField, Value, End}
 use Rattle.faults.specs.declared.expected.Form.{Form}
 use Rattle.faults.specs.declared.expected.Form.the-variants as form
 
@@ -13,12 +13,15 @@ use Rattle.faults.specs.declared.expected.Form.the-variants as form
 abbrev pub formOf : Expected → Form
 formOf Tasks = form.Number
 formOf Objects = form.Number
+formOf Fields = form.Number
 formOf Owner = form.Number
 formOf Start = form.Number
 formOf Task = form.Number
 formOf Letter = form.Letter
 formOf ReadObject = form.Number
 formOf WriteObject = form.Number
+formOf ReadField = form.Number
+formOf WriteField = form.Number
 formOf Value = form.Number
 formOf End = form.Nothing
 
@@ -34,18 +37,21 @@ abbrev pub fitsAs : Expected → ℕ → Bool
 fitsAs e f = hasForm (formOf e) f
 
 -- what is expected after such a word; owners and starting values go on without end. After a letter other than W comes the object of a
--- read
-abbrev pub behindOf : Expected → Expected
-behindOf Tasks = Objects
-behindOf Objects = End
-behindOf Owner = Owner
-behindOf Start = Start
-behindOf Task = Letter
-behindOf Letter = ReadObject
-behindOf ReadObject = End
-behindOf WriteObject = Value
-behindOf Value = End
-behindOf End = End
+-- read. If lines name a field, it follows the object
+abbrev pub behindOf : Bool → Expected → Expected
+behindOf named Tasks = Objects
+behindOf named Objects = Fields
+behindOf named Fields = End
+behindOf named Owner = Owner
+behindOf named Start = Start
+behindOf named Task = Letter
+behindOf named Letter = ReadObject
+behindOf named ReadObject = cond named ReadField End
+behindOf named WriteObject = cond named WriteField Value
+behindOf named ReadField = End
+behindOf named WriteField = Value
+behindOf named Value = End
+behindOf named End = End
 
-unfoldable pub nextOf : Expected → ℕ → Expected
-nextOf e f = cond (eqb f writeField) WriteObject (behindOf e)
+unfoldable pub nextOf : Bool → Expected → ℕ → Expected
+nextOf named e f = cond (eqb f writeField) WriteObject (behindOf named e)

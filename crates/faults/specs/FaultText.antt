@@ -4,14 +4,15 @@ use mathlib.Core.List.{List, [], _∷_, _++_}
 use Prim.Native.Nat.{ℕ}
 use lib.Dec.{eqb}
 use lib.ListN.{length}
+use Rattle.lines.specs.declared.rows.Sizes as sizes
 use Rattle.lines.specs.Words.{wordsOf}
 use Rattle.text.specs.Decimal.{decimalOf, fieldOf}
 use Rattle.faults.specs.declared.expected.Expected.{Expected}
 use Rattle.faults.specs.declared.kind.Kind.{Kind}
 use Rattle.faults.specs.declared.kind.Kind.the-variants.{Sizes, Owners, Starts, Access}
-use Rattle.faults.specs.Kind.{firstOf}
+use Rattle.faults.specs.Kind.{firstOf, countOf}
 use Rattle.faults.specs.Name.{nameOf, missingName}
-use Rattle.faults.specs.Reading.{Reading, readingOf, objectsOf}
+use Rattle.faults.specs.Reading.{Reading, readingOf, textSizes}
 use Rattle.faults.specs.Shown.{shownOf}
 use Rattle.faults.specs.Stop.{Stop, stopOf}
 
@@ -54,7 +55,7 @@ endText Owners n e k = countText n ownerNoun k
 endText Starts n e k = countText n startNoun k
 endText Access n e k = nameOf e ++ foundLineEnd
 
--- for a line with N objects, by where its reading stopped
+-- for a line that has to have so many numbers if it is a list, by where its reading stopped
 unfoldable pub stopText : Kind → ℕ → Stop → List ℕ
 stopText kind n s = cond (eqb (length (s .word)) 0) (endText kind n (s .expected) (s .words)) (wrongText (s .expected) (s .word))
 
@@ -62,12 +63,13 @@ stopText kind n s = cond (eqb (length (s .word)) 0) (endText kind n (s .expected
 abbrev pub missingText : Kind → List ℕ
 missingText kind = missingName kind ++ foundTextEnd
 
-abbrev pub lineText : Kind → ℕ → List ℕ → List ℕ
-lineText kind n line = stopText kind n (stopOf (firstOf kind) 0 (wordsOf line))
+-- for a line of a text that begins with T, N and F
+abbrev pub lineText : sizes.Sizes → Kind → List ℕ → List ℕ
+lineText z kind line = stopText kind (countOf kind z) (stopOf (z .named) (firstOf kind) 0 (wordsOf line))
 
-unfoldable pub readingText : ℕ → Reading → List ℕ
-readingText n d = cond (d .there) (lineText (d .kind) n (d .bytes)) (missingText (d .kind))
+unfoldable pub readingText : sizes.Sizes → Reading → List ℕ
+readingText z d = cond (d .there) (lineText z (d .kind) (d .bytes)) (missingText (d .kind))
 
 -- the fault in a line of a text
 abbrev pub faultText : List ℕ → ℕ → List ℕ
-faultText text line = readingText (objectsOf text) (readingOf text line)
+faultText text line = readingText (textSizes text) (readingOf text line)

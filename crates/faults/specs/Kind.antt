@@ -1,4 +1,7 @@
--- What a line of the text is: T and N, the owners, the starting values, or an access.
+-- What a line of the text is: T and N, or T, N and F; the owners; the starting values; or an access.
+use Prim.Native.Nat.{ℕ}
+use Rattle.codec.specs.Cell.{cellsOf}
+use Rattle.lines.specs.declared.rows.Sizes as sizes
 use Rattle.faults.specs.declared.expected.Expected.{Expected}
 use Rattle.faults.specs.declared.expected.Expected.the-variants.{Tasks, Owner, Start, Task}
 use Rattle.faults.specs.declared.kind.Kind.{Kind}
@@ -17,3 +20,10 @@ kindAfter Sizes = Owners
 kindAfter Owners = Starts
 kindAfter Starts = Access
 kindAfter Access = Access
+
+-- how many numbers a line of owners or starting values has
+abbrev pub countOf : Kind → sizes.Sizes → ℕ
+countOf Sizes z = 0
+countOf Owners z = z .objects
+countOf Starts z = cellsOf (z .fields) (z .objects)
+countOf Access z = 0

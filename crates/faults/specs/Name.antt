@@ -2,17 +2,20 @@
 use mathlib.Core.List.{List, [], _∷_}
 use Prim.Native.Nat.{ℕ}
 use Rattle.faults.specs.declared.expected.Expected.{Expected}
-use Rattle.faults.specs.declared.expected.Expected.the-variants.{Tasks, Objects, Owner, Start, Task, Letter, ReadObject, WriteObject, Value, End}
+use Rattle.faults.specs.declared.expected.Expected.the-variants.{Tasks, Objects, Fields, Owner, Start, Task, Letter, ReadObject, WriteObject, ReadField, WriteField, Value, End}
 use Rattle.faults.specs.declared.kind.Kind.{Kind}
 use Rattle.faults.specs.declared.kind.Kind.the-variants.{Sizes, Owners, Starts, Access}
 
--- `the number of tasks`, `the number of objects`, `an owner`, `a starting value`, `a task number`, `R or W`, `an object number`, `a value`,
--- `the end of the line`
+-- `the number of tasks`, `the number of objects`, `the number of fields or the end of the line`, `an owner`, `a starting value`, `a task
+-- number`, `R or W`, `an object number`, `a field number`, `a value`, `the end of the line`
 abbrev pub tasksWord : List ℕ
 tasksWord = 116 ∷ 104 ∷ 101 ∷ 32 ∷ 110 ∷ 117 ∷ 109 ∷ 98 ∷ 101 ∷ 114 ∷ 32 ∷ 111 ∷ 102 ∷ 32 ∷ 116 ∷ 97 ∷ 115 ∷ 107 ∷ 115 ∷ []
 
 abbrev pub objectsWord : List ℕ
 objectsWord = 116 ∷ 104 ∷ 101 ∷ 32 ∷ 110 ∷ 117 ∷ 109 ∷ 98 ∷ 101 ∷ 114 ∷ 32 ∷ 111 ∷ 102 ∷ 32 ∷ 111 ∷ 98 ∷ 106 ∷ 101 ∷ 99 ∷ 116 ∷ 115 ∷ []
+
+abbrev pub fieldsWord : List ℕ
+fieldsWord = 116 ∷ 104 ∷ 101 ∷ 32 ∷ 110 ∷ 117 ∷ 109 ∷ 98 ∷ 101 ∷ 114 ∷ 32 ∷ 111 ∷ 102 ∷ 32 ∷ 102 ∷ 105 ∷ 101 ∷ 108 ∷ 100 ∷ 115 ∷ 32 ∷ 111 ∷ 114 ∷ 32 ∷ 116 ∷ 104 ∷ 101 ∷ 32 ∷ 101 ∷ 110 ∷ 100 ∷ 32 ∷ 111 ∷ 102 ∷ 32 ∷ 116 ∷ 104 ∷ 101 ∷ 32 ∷ 108 ∷ 105 ∷ 110 ∷ 101 ∷ []
 
 abbrev pub ownerWord : List ℕ
 ownerWord = 97 ∷ 110 ∷ 32 ∷ 111 ∷ 119 ∷ 110 ∷ 101 ∷ 114 ∷ []
@@ -29,6 +32,9 @@ letterWord = 82 ∷ 32 ∷ 111 ∷ 114 ∷ 32 ∷ 87 ∷ []
 abbrev pub objectWord : List ℕ
 objectWord = 97 ∷ 110 ∷ 32 ∷ 111 ∷ 98 ∷ 106 ∷ 101 ∷ 99 ∷ 116 ∷ 32 ∷ 110 ∷ 117 ∷ 109 ∷ 98 ∷ 101 ∷ 114 ∷ []
 
+abbrev pub fieldWord : List ℕ
+fieldWord = 97 ∷ 32 ∷ 102 ∷ 105 ∷ 101 ∷ 108 ∷ 100 ∷ 32 ∷ 110 ∷ 117 ∷ 109 ∷ 98 ∷ 101 ∷ 114 ∷ []
+
 abbrev pub valueWord : List ℕ
 valueWord = 97 ∷ 32 ∷ 118 ∷ 97 ∷ 108 ∷ 117 ∷ 101 ∷ []
 
@@ -38,12 +44,15 @@ lineEnd = 116 ∷ 104 ∷ 101 ∷ 32 ∷ 101 ∷ 110 ∷ 100 ∷ 32 ∷ 111 ∷ 
 abbrev pub nameOf : Expected → List ℕ
 nameOf Tasks = tasksWord
 nameOf Objects = objectsWord
+nameOf Fields = fieldsWord
 nameOf Owner = ownerWord
 nameOf Start = startWord
 nameOf Task = taskWord
 nameOf Letter = letterWord
 nameOf ReadObject = objectWord
 nameOf WriteObject = objectWord
+nameOf ReadField = fieldWord
+nameOf WriteField = fieldWord
 nameOf Value = valueWord
 nameOf End = lineEnd
 

@@ -1,14 +1,15 @@
--- What the line with a given number is read as: blank lines and comments are skipped, the others are T and N, the owners, the starting
--- values, and accesses.
+-- What the line with a given number is read as: blank lines and comments are skipped, the others are T and N, or T, N and F; the owners; the
+-- starting values; and accesses.
 use mathlib.Core.Path.{_≡_}
 use mathlib.Core.Bool.{Bool, true, false, cond}
 use mathlib.Core.List.{List, [], _∷_}
 use Prim.Native.Nat.{ℕ, _-_, _≤_}
 use lib.Dec.{eqb}
 use lib.ListN.{length, take, drop}
+use Rattle.lines.specs.declared.rows.Sizes as sizes
 use Rattle.lines.specs.Lines.{Line, linesOf, numbered}
 use Rattle.lines.specs.Fields.{fieldsOf}
-use Rattle.lines.specs.Rows.{sizesOf}
+use Rattle.lines.specs.Rows.{noSizes, sizesOf}
 use Rattle.faults.specs.declared.kind.Kind.{Kind}
 use Rattle.faults.specs.declared.kind.Kind.the-variants.{Sizes}
 use Rattle.faults.specs.declared.reading.Place.{Place}
@@ -35,10 +36,10 @@ pub record Stands (d : Reading) (text : List ℕ) (r : Place) : Type 0 where
   pub ordered : r .from ≤ r .to
   pub within : r .to ≤ length text
 
--- N as the first line gives it
-unfoldable pub objectsIn : List Line → ℕ
-objectsIn [] = 0
-objectsIn (l ∷ ls) = sizesOf (fieldsOf (l .bytes)) .objects
+-- T, N and F as the first line gives them
+unfoldable pub sizesIn : List Line → sizes.Sizes
+sizesIn [] = noSizes
+sizesIn (l ∷ ls) = sizesOf (fieldsOf (l .bytes))
 
-abbrev pub objectsOf : List ℕ → ℕ
-objectsOf text = objectsIn (numbered 1 (linesOf text))
+abbrev pub textSizes : List ℕ → sizes.Sizes
+textSizes text = sizesIn (numbered 1 (linesOf text))

@@ -1,6 +1,6 @@
 -- Where the reading of a line stops: at the first word that is not as expected, or at the line's end.
 use mathlib.Core.Path.{_≡_}
-use mathlib.Core.Bool.{cond}
+use mathlib.Core.Bool.{Bool, cond}
 use mathlib.Core.List.{List, [], _∷_}
 use Prim.Native.Nat.{ℕ, _+_, _-_, _≤_}
 use lib.ListN.{length, take, drop}
@@ -15,10 +15,10 @@ pub record Stop : Type 0 where
   pub words : ℕ
   pub word : List ℕ
 
--- with these words left, after a number of words that were as expected
-unfoldable pub stopOf : Expected → ℕ → List (List ℕ) → Stop
-stopOf e k [] = record { expected = e; words = k; word = [] }
-stopOf e k (w ∷ ws) = cond (fitsAs e (fieldOf w)) (stopOf (nextOf e (fieldOf w)) (k + 1) ws) (record { expected = e; words = k; word = w })
+-- with these words left, after a number of words that were as expected; given whether lines name a field
+unfoldable pub stopOf : Bool → Expected → ℕ → List (List ℕ) → Stop
+stopOf named e k [] = record { expected = e; words = k; word = [] }
+stopOf named e k (w ∷ ws) = cond (fitsAs e (fieldOf w)) (stopOf named (nextOf named e (fieldOf w)) (k + 1) ws) (record { expected = e; words = k; word = w })
 
 -- where the reading of a line stopped
 pub record Stops (s : Stop) (line : List ℕ) (r : Stopped) : Type 0 where

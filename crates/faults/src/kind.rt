@@ -1,9 +1,13 @@
 // What a line of the text is.
 ghost use mathlib.Core.Path.{_≡_};
-ghost use Rattle.faults.specs.Kind.{firstOf, kindAfter};
+ghost use Prim.Native.Nat.{_<_};
+ghost use Rattle.lines.specs.Number.{none};
+ghost use Rattle.faults.specs.Kind.{firstOf, kindAfter, countOf};
 use crate::expected::Expected;
+use codec::cell::width_of;
+use lines::rows::Sizes;
 
-// T and N, the owners, the starting values, or an access.
+// T and N, or T, N and F; the owners; the starting values; or an access.
 pub enum Kind {
     Sizes,
     Owners,
@@ -32,5 +36,18 @@ pub(crate) fn kind_after(kind: Kind) -> Kind
         Kind::Owners => Kind::Starts,
         Kind::Starts => Kind::Access,
         Kind::Access => Kind::Access,
+    }
+}
+
+// How many numbers a line of owners or starting values has.
+pub(crate) fn count_of(kind: Kind, z: Sizes) -> usize
+    requires { ⌜ (z .objects < none) × (z .fields < none) ⌝ }
+    ensures { λ r. ⌜ r ≡ countOf kind z ⌝ }
+{
+    match kind {
+        Kind::Sizes => 0,
+        Kind::Owners => z.objects,
+        Kind::Starts => z.objects * width_of(z.fields),
+        Kind::Access => 0,
     }
 }

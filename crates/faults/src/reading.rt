@@ -2,10 +2,12 @@
 ghost use mathlib.Core.Path.{_≡_};
 ghost use Prim.Native.Nat.{_≤_};
 ghost use lib.ListN.{length};
-ghost use Rattle.faults.specs.Reading.{readingOf, Stands, objectsOf};
+ghost use Rattle.faults.specs.Reading.{readingOf, Stands, textSizes};
 use crate::kind::Kind;
 use crate::kind::kind_after;
 use lines::next_line;
+use lines::rows::Sizes;
+use lines::rows::no_sizes;
 use lines::rows::sizes_of;
 
 // What the line is, whether the text has it, and where it is.
@@ -56,17 +58,16 @@ pub(crate) fn place_of(text: &[u8], line: usize) -> Place
     }
 }
 
-// N as the first line gives it.
-pub(crate) fn objects_of(text: &[u8]) -> usize
+// T, N and F as the first line gives them.
+pub(crate) fn text_sizes(text: &[u8]) -> Sizes
     requires { ⌜ length (now text) ≤ 1048576 ⌝ }
-    ensures { λ r. ⌜ r ≡ objectsOf (now (text .entry)) ⌝ }
+    ensures { λ r. ⌜ r ≡ textSizes (now (text .entry)) ⌝ }
 {
     let l = next_line(text, 0, 1);
     if !l.there {
-        return 0;
+        return no_sizes();
     }
     let from = l.from;
     let to = l.to;
-    let z = sizes_of(&text[from..to]);
-    z.objects
+    sizes_of(&text[from..to])
 }

@@ -17,10 +17,10 @@ pub(crate) struct Stopped {
     pub(crate) to: usize,
 }
 
-// The first word that is not as expected, in a line without its comment.
-pub(crate) fn stop_in(line: &[u8], first: Expected) -> Stopped
+// The first word that is not as expected, in a line without its comment, given whether lines name a field.
+pub(crate) fn stop_in(line: &[u8], first: Expected, named: bool) -> Stopped
     requires { ⌜ length (now line) ≤ 1048576 ⌝ }
-    ensures { λ r. ⌜ Stops (stopOf first 0 (wordsIn (now (line .entry)))) (now (line .entry)) r ⌝ }
+    ensures { λ r. ⌜ Stops (stopOf named first 0 (wordsIn (now (line .entry)))) (now (line .entry)) r ⌝ }
 {
     let mut expected = first;
     let mut words = 0;
@@ -46,7 +46,7 @@ pub(crate) fn stop_in(line: &[u8], first: Expected) -> Stopped
                 to,
             };
         }
-        expected = next(expected, f);
+        expected = next(expected, f, named);
         words += 1;
         at = to;
     }

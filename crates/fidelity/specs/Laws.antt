@@ -9,6 +9,7 @@ pub mod Follows
 pub mod LeftOver
 pub mod LowestFirst
 pub mod Matches
+pub mod OneField
 pub mod OneCall
 pub mod OnePlace
 pub mod Packed

@@ -3,6 +3,7 @@ pub mod Box
 pub mod Counted
 pub mod Fence
 pub mod Filed
+pub mod OneField
 pub mod Paused
 pub mod Playable
 pub mod RunA

@@ -33,7 +33,7 @@ module _ (o : Opening) (asked : List Asked) (outs : ℕ → List ℕ) (one other
     pub allowed-orders : (steps others : List ℕ) → AllTaken file (benchOf file one) steps → AllTaken file (benchOf file other) others
         → ((t : ℕ) → times t steps ≡ times t others) → Same steps others
     -- 3. What a task has done determines what it does next, wherever the other tasks are: if both benches take its step, they answer the
-    -- same kind, object, value and number.
+    -- same kind, object, field, value and number.
     pub next-is-known : (steps others : List ℕ) (t : ℕ) → done o asked outs one steps t ≡ done o asked outs other others t
         → takes file (after o asked outs one steps) t ≡ true → takes file (after o asked outs other others) t ≡ true
         → shownOf (answerOf file (after o asked outs one steps) t) ≡ shownOf (answerOf file (after o asked outs other others) t)

@@ -28,4 +28,4 @@ heldTo (c ∷ cs) (x ∷ xs) = heldBy x c ∷ heldTo cs xs
 
 -- the run with them: its ready tasks are those that are ready and not there
 abbrev pub runWithin : List ℕ → Run → Run
-runWithin counts r = record { tasks = r .tasks; objects = r .objects; runs = heldTo counts (r .runs) }
+runWithin counts r = record { tasks = r .tasks; objects = r .objects; fields = r .fields; runs = heldTo counts (r .runs) }

@@ -57,6 +57,7 @@ pub fn within(run: Run, counts: &[u32]) -> Run
     Run {
         tasks: run.tasks,
         objects: run.objects,
+        fields: run.fields,
         runs,
     }
 }

@@ -6,4 +6,5 @@ pub mod Found
 pub mod Lines
 pub mod Number
 pub mod RowCode
+pub mod Rows
 pub mod WordsCode

@@ -1,23 +1,26 @@
-// The first three lines of a text: T and N, the owners, the starting values.
+// The first three lines of a text: T and N, or T, N and F; the owners; the starting values.
 ghost use mathlib.Core.Bool.{true};
 ghost use mathlib.Core.Path.{_≡_};
 ghost use Prim.Native.Nat.{_≤_};
 ghost use lib.ListN.{length};
 ghost use Rattle.codec.specs.Store.{store};
-ghost use Rattle.codec.specs.Limit.{maxObjects};
+ghost use Rattle.codec.specs.Limit.{maxObjects, maxCells};
 ghost use Rattle.reader.specs.Parse.{allBelow};
 ghost use Rattle.lines.specs.Fields.{fieldsOf};
 ghost use Rattle.lines.specs.Number.{none};
-ghost use Rattle.lines.specs.Rows.{isRow, sizesOf, ownerOf, ownersOf};
+ghost use Rattle.lines.specs.Rows.{isRow, noSizes, sizesOf, ownerOf, ownersOf};
 use crate::fields::NONE;
 use crate::fields::fields;
+use codec::limit::CELLS;
 use codec::limit::OBJECTS;
 
-// T and N as a line gives them; `good` is false if the line is malformed.
+// T and N as a line gives them, whether it has F too, and F, or 0; `good` is false if the line is malformed.
 pub struct Sizes {
     pub good: bool,
     pub tasks: usize,
     pub objects: usize,
+    pub named: bool,
+    pub fields: usize,
 }
 
 // Whether each field is a number.
@@ -45,24 +48,44 @@ pub fn is_row(line: &[u8], count: usize, row: &mut [u64]) -> bool
     numbers_in(&row[..n])
 }
 
-// T and N.
+// The answer for a malformed line.
+pub fn no_sizes() -> Sizes
+    ensures { λ r. ⌜ r ≡ noSizes ⌝ }
+{
+    Sizes {
+        good: false,
+        tasks: 0,
+        objects: 0,
+        named: false,
+        fields: 0,
+    }
+}
+
+// T and N, or T, N and F.
 pub fn sizes_of(line: &[u8]) -> Sizes
     requires { ⌜ length (now line) ≤ 1048576 ⌝ }
     ensures { λ r. ⌜ r ≡ sizesOf (fieldsOf (now (line .entry))) ⌝ }
 {
-    let mut row = [0u64; 2];
-    if !is_row(line, 2, &mut row) {
+    let mut row = [0u64; 3];
+    if is_row(line, 2, &mut row) {
         return Sizes {
-            good: false,
-            tasks: 0,
-            objects: 0,
+            good: true,
+            tasks: row[0] as usize,
+            objects: row[1] as usize,
+            named: false,
+            fields: 0,
         };
     }
-    Sizes {
-        good: true,
-        tasks: row[0] as usize,
-        objects: row[1] as usize,
+    if is_row(line, 3, &mut row) {
+        return Sizes {
+            good: true,
+            tasks: row[0] as usize,
+            objects: row[1] as usize,
+            named: true,
+            fields: row[2] as usize,
+        };
     }
+    no_sizes()
 }
 
 // An owner above 255 becomes 255, which is below no T.
@@ -109,12 +132,12 @@ pub fn read_owners(line: &[u8], owners: &mut [u8]) -> bool
 
 // The starting values' line. Returns whether it holds one number for each value.
 pub fn read_starts(line: &[u8], starts: &mut [u32]) -> bool
-    requires { ⌜ (length (now line) ≤ 1048576) × (length (now starts) ≤ maxObjects) ⌝ }
+    requires { ⌜ (length (now line) ≤ 1048576) × (length (now starts) ≤ maxCells) ⌝ }
     ensures { λ r. ⌜ r ≡ isRow (length (now (starts .entry))) (fieldsOf (now (line .entry))) ⌝ }
     ensures { λ r. ⌜ (r ≡ true → now (starts .exit) ≡ fieldsOf (now (line .entry))) ⌝ }
 {
     let n = starts.len();
-    let mut row = [0u64; OBJECTS];
+    let mut row = [0u64; CELLS];
     if !is_row(line, n, &mut row) {
         return false;
     }

@@ -47,7 +47,7 @@ abbrev pub finishedNumbers : Completion → List ℕ
 finishedNumbers a = a .number ∷ bit (a .finished) ∷ []
 
 abbrev pub stepNumbers : Stepped → List ℕ
-stepNumbers a = a .number ∷ a .offset ∷ a .kind ∷ a .object ∷ a .value ∷ a .access ∷ []
+stepNumbers a = a .number ∷ a .offset ∷ a .kind ∷ a .object ∷ a .field ∷ a .value ∷ a .access ∷ []
 
 abbrev pub sameNumbers : Compared → List ℕ
 sameNumbers a = a .number ∷ a .offset ∷ bit (a .alike) ∷ []

@@ -3,7 +3,7 @@ ghost use mathlib.Core.Path.{_≡_};
 ghost use mathlib.Core.List.{[], _∷_};
 ghost use Rattle.codec.specs.Store.{store};
 
-pub(crate) fn put_three(answer: &mut [usize; 6], x: usize, y: usize, z: usize)
+pub(crate) fn put_three(answer: &mut [usize; 7], x: usize, y: usize, z: usize)
     ensures { λ _. ⌜ now (answer .exit) ≡ store (now (answer .entry)) 0 (x ∷ y ∷ z ∷ []) ⌝ }
 {
     answer[0] = x;
@@ -11,7 +11,7 @@ pub(crate) fn put_three(answer: &mut [usize; 6], x: usize, y: usize, z: usize)
     answer[2] = z;
 }
 
-pub(crate) fn put_five(answer: &mut [usize; 6], v: usize, w: usize, x: usize, y: usize, z: usize)
+pub(crate) fn put_five(answer: &mut [usize; 7], v: usize, w: usize, x: usize, y: usize, z: usize)
     ensures { λ _. ⌜ now (answer .exit) ≡ store (now (answer .entry)) 0 (v ∷ w ∷ x ∷ y ∷ z ∷ []) ⌝ }
 {
     answer[0] = v;
@@ -22,7 +22,7 @@ pub(crate) fn put_five(answer: &mut [usize; 6], v: usize, w: usize, x: usize, y:
 }
 
 pub(crate) fn put_six(
-    answer: &mut [usize; 6],
+    answer: &mut [usize; 7],
     u: usize,
     v: usize,
     w: usize,
@@ -38,4 +38,25 @@ pub(crate) fn put_six(
     answer[3] = x;
     answer[4] = y;
     answer[5] = z;
+}
+
+pub(crate) fn put_seven(
+    answer: &mut [usize; 7],
+    t: usize,
+    u: usize,
+    v: usize,
+    w: usize,
+    x: usize,
+    y: usize,
+    z: usize,
+)
+    ensures { λ _. ⌜ now (answer .exit) ≡ store (now (answer .entry)) 0 (t ∷ u ∷ v ∷ w ∷ x ∷ y ∷ z ∷ []) ⌝ }
+{
+    answer[0] = t;
+    answer[1] = u;
+    answer[2] = v;
+    answer[3] = w;
+    answer[4] = x;
+    answer[5] = y;
+    answer[6] = z;
 }

@@ -12,7 +12,7 @@ use reader::layout::locate;
 // The answer is number, offset and bytes written. One layout gives the refusal and the body's place: `reader::body` answers an empty part
 // for a refusal and for an empty body, and to tell them apart the bytes would be checked again.
 #[no_mangle]
-pub extern "C" fn wk_body(bytes: &[u8], task: usize, out: &mut [u8], answer: &mut [usize; 6])
+pub extern "C" fn wk_body(bytes: &[u8], task: usize, out: &mut [u8], answer: &mut [usize; 7])
     ensures { λ _. ⌜ now (answer .exit) ≡ store (now (answer .entry)) 0 (copyNumbers (copyOf (now (bytes .entry)) task (now (out .entry)))) ⌝ }
     ensures { λ _. ⌜ now (out .exit) ≡ copyOf (now (bytes .entry)) task (now (out .entry)) .out ⌝ }
 {

@@ -10,12 +10,12 @@ use sections::pack::pack;
 // `ends` gives the offset in `logs` where each task's log ends. The answer is number, task, offset in the task's log, and bytes written.
 #[no_mangle]
 pub extern "C" fn wk_pack(
-    halves: &[u16; 548],
-    words: &[u32; 273],
+    halves: &[u16; 4133],
+    words: &[u32; 2065],
     logs: &[u8],
     ends: &[usize],
     out: &mut [u8],
-    answer: &mut [usize; 6],
+    answer: &mut [usize; 7],
 )
     ensures { λ _. ⌜ now (answer .exit) ≡ store (now (answer .entry)) 0 (packNumbers (packOf (stateIn (now (halves .entry)) (now (words .entry))) (now (logs .entry)) (now (ends .entry)) (now (out .entry)) .answer)) ⌝ }
     ensures { λ _. ⌜ now (out .exit) ≡ packOf (stateIn (now (halves .entry)) (now (words .entry))) (now (logs .entry)) (now (ends .entry)) (now (out .entry)) .out ⌝ }

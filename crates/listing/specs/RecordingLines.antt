@@ -30,4 +30,5 @@ sectionsLines at t (es ∷ bodies) =
     ++ sectionsLines (at + lengthOf sectionKind + length (bodyBytes es)) (suc t) bodies
 
 unfoldable pub recordingLines : Recording → List ℕ
-recordingLines r = headLine 0 (r .tasks) (length (r .owners)) ++ sectionsLines (headLength (length (r .owners))) 0 (r .bodies)
+recordingLines r =
+    headLine 0 (r .tasks) (length (r .owners)) (r .fields) ++ sectionsLines (headLength (r .fields) (length (r .owners))) 0 (r .bodies)

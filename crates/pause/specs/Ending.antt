@@ -27,7 +27,7 @@ unfoldable pub waitsAt : List ℕ → Run → List ℕ
 waitsAt b r = cond (eqb (readyOf r b .word) 0) (waitsOf b r) []
 
 unfoldable pub whyOf : List ℕ → List ℕ → Followed → List ℕ
-whyOf b counts f = cond (eqb (f .stopped .number) 0) (waitsAt b (runWithin counts (f .play .run))) (differOf b (f .play .memory) (f .stopped .offset))
+whyOf b counts f = cond (eqb (f .stopped .number) 0) (waitsAt b (runWithin counts (f .play .run))) (differOf (f .play .run .fields) b (f .play .memory) (f .stopped .offset))
 
 -- both streams
 abbrev pub saidOf : List ℕ → List ℕ → Followed → Streams

@@ -44,7 +44,7 @@ spokenOf most counts ordered order b = cond (ltb longest (length b)) (record { t
 
 -- the most bytes that a text can have (`Laws/Bound.told-few`)
 abbrev pub longestText : ℕ
-longestText = 855000
+longestText = 940300
 
 -- the most tasks that an order of 65,536 bytes can name (`lines` `Laws/Order.order-few`)
 abbrev pub mostTasks : ℕ

@@ -3,7 +3,7 @@
 use mathlib.Core.Bool.{Bool, _&&_}
 use Prim.Native.Nat.{ℕ}
 use lib.Dec.{leb}
-use Rattle.codec.specs.Limit.{maxTasks, maxObjects, isWithin}
+use Rattle.codec.specs.Limit.{maxTasks, maxObjects, maxFields, isWithin}
 use Rattle.pending.specs.declared.TaskRun.{TaskRun}
 use Rattle.pending.specs.declared.Run.{Run}
 use Rattle.pending.specs.All.{allFrom}
@@ -17,4 +17,4 @@ abbrev pub taskSoundAt : Run → ℕ → ℕ → Bool
 taskSoundAt r size t = taskSound size (taskAt (r .runs) t)
 
 unfoldable pub soundOf : Run → ℕ → Bool
-soundOf r size = isWithin 1 maxTasks (r .tasks) && (isWithin 1 maxObjects (r .objects) && allFrom (taskSoundAt r size) 0 (r .tasks))
+soundOf r size = isWithin 1 maxTasks (r .tasks) && (isWithin 1 maxObjects (r .objects) && (leb (r .fields) maxFields && allFrom (taskSoundAt r size) 0 (r .tasks)))

@@ -117,7 +117,7 @@ pub fn dones_of(run: Run) -> [usize; TASKS]
     dones
 }
 
-// The next group of a task, with the run's T and N.
+// The next group of a task, with the run's T, N and number of fields.
 pub fn next_of(run: Run, bytes: &[u8], task: usize) -> Next
     requires { ⌜ (run .tasks ≤ maxTasks) × (task < maxTasks) × (taskAt (run .runs) task .end ≤ length (now bytes)) ⌝ }
     ensures { λ r. ⌜ r ≡ nextOf run (now (bytes .entry)) task ⌝ }
@@ -126,6 +126,7 @@ pub fn next_of(run: Run, bytes: &[u8], task: usize) -> Next
     let limits = Limits {
         tasks: run.tasks,
         objects: run.objects,
+        fields: run.fields,
         own: task,
     };
     let dones = dones_of(run);

@@ -3,6 +3,7 @@ ghost use mathlib.Core.Path.{_≡_};
 ghost use Rattle.pending.specs.Sound.{taskSound, soundOf};
 use crate::Run;
 use crate::TaskRun;
+use codec::limit::FIELDS;
 use codec::limit::OBJECTS;
 use codec::limit::TASKS;
 use codec::limit::within;
@@ -29,6 +30,9 @@ pub fn sound(run: Run, size: usize) -> bool
         return false;
     }
     if !within(1, OBJECTS, run.objects) {
+        return false;
+    }
+    if FIELDS < run.fields {
         return false;
     }
     for t in 0..tasks {

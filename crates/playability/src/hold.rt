@@ -46,6 +46,7 @@ pub(crate) fn hold_of(run: Run, bytes: &[u8]) -> Hold
             let limits = Limits {
                 tasks: run.tasks,
                 objects: run.objects,
+                fields: run.fields,
                 own: t,
             };
             let offset = offset_of(x, bytes, limits, &dones);

@@ -50,6 +50,7 @@ fn play(run: Run, bytes: &[u8]) -> Stood
         let n = lowest(
             run.tasks,
             run.objects,
+            run.fields,
             bytes,
             &mut places,
             &ends,
@@ -59,7 +60,15 @@ fn play(run: Run, bytes: &[u8]) -> Stood
             &mut ats,
         );
         let NextStep::Ready { task: _, op: _ } = n else {
-            let stood = run_of(run.tasks, run.objects, &places, &ends, &dones, &counts);
+            let stood = run_of(
+                run.tasks,
+                run.objects,
+                run.fields,
+                &places,
+                &ends,
+                &dones,
+                &counts,
+            );
             return Stood { run: stood, steps };
         };
         steps += 1;

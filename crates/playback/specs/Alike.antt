@@ -16,6 +16,7 @@ use Rattle.pending.specs.All.{allFrom}
 use Rattle.scheduler.specs.Finish.{Play}
 use Rattle.playback.specs.Shown.{shownPlay}
 use Rattle.playback.specs.ToEnd.{playOf}
+use Rattle.codec.specs.Cell.{cellsOf}
 
 -- the answer, and the memories after the call
 pub record Comparison : Type 0 where
@@ -52,7 +53,7 @@ unfoldable pub compared : List ℕ → List ℕ → List ℕ → List ℕ → Re
 compared b c m n (refused d) y = refusing (d .number) (d .offset) m n
 compared b c m n (read p) (refused d) = refusing (d .number) (d .offset) m n
 compared b c m n (read p) (read q) =
-    cond (eqb (length m) (length (p .recording .owners)) && eqb (length n) (length (q .recording .owners))) (comparing b c (playOf b m) (playOf c n))
+    cond (eqb (length m) (cellsOf (p .recording .fields) (length (p .recording .owners))) && eqb (length n) (cellsOf (q .recording .fields) (length (q .recording .owners)))) (comparing b c (playOf b m) (playOf c n))
     (refusing wrongLength 0 m n)
 
 unfoldable pub sameOutcomeOf : List ℕ → List ℕ → List ℕ → List ℕ → Comparison

@@ -1,12 +1,14 @@
 // Whether two recordings are alike: both are played to where they end, always the lowest ready task, and the results are compared.
 ghost use mathlib.Core.Path.{_≡_};
 ghost use lib.ListN.{length};
+ghost use Rattle.codec.specs.Cell.{cellsOf};
 ghost use Rattle.reader.specs.Layout.{layoutOf};
 ghost use Rattle.reader.specs.Parse.{parse};
 ghost use Rattle.playback.specs.Alike.{refusedCompared, sameEntries, alikeOf, comparing, sameOutcomeOf};
 ghost use Rattle.playback.specs.ToEnd.{playOf};
 use crate::finish::Played;
 use crate::to_end::play;
+use codec::cell::cells_of;
 use codec::number::ENTRIES;
 use reader::layout::Layout;
 use reader::layout::locate;
@@ -73,8 +75,8 @@ fn compare(
     first_memory: &mut [u32],
     second_memory: &mut [u32],
 ) -> bool
-    requires { ⌜ (l ≡ layoutOf (parse (now first))) × (l .number ≡ 0) × (length (now «first_memory») ≡ l .objects) ⌝ }
-    requires { ⌜ (k ≡ layoutOf (parse (now second))) × (k .number ≡ 0) × (length (now «second_memory») ≡ k .objects) ⌝ }
+    requires { ⌜ (l ≡ layoutOf (parse (now first))) × (l .number ≡ 0) × (length (now «first_memory») ≡ cellsOf (l .fields) (l .objects)) ⌝ }
+    requires { ⌜ (k ≡ layoutOf (parse (now second))) × (k .number ≡ 0) × (length (now «second_memory») ≡ cellsOf (k .fields) (k .objects)) ⌝ }
     ensures { λ r. ⌜ r ≡ comparing (now (first .entry)) (now (second .entry)) (playOf (now (first .entry)) (now («first_memory» .entry))) (playOf (now (second .entry)) (now («second_memory» .entry))) .answer .alike ⌝ }
     ensures { λ r. ⌜ now («first_memory» .exit) ≡ playOf (now (first .entry)) (now («first_memory» .entry)) .memory ⌝ }
     ensures { λ r. ⌜ now («second_memory» .exit) ≡ playOf (now (second .entry)) (now («second_memory» .entry)) .memory ⌝ }
@@ -104,10 +106,10 @@ pub fn same_outcome(
     if k.number != 0 {
         return refused(k.number, k.offset);
     }
-    if first_memory.len() != l.objects {
+    if first_memory.len() != cells_of(l.fields, l.objects) {
         return refused(ENTRIES, 0);
     }
-    if second_memory.len() != k.objects {
+    if second_memory.len() != cells_of(k.fields, k.objects) {
         return refused(ENTRIES, 0);
     }
     Compared {

@@ -6,6 +6,7 @@ ghost use Rattle.scheduler.specs.Laws.Columns.{allDoneOf};
 ghost use Rattle.scheduler.specs.Finish.{leftOver, finishOf};
 ghost use Rattle.playback.specs.Shown.{shownPlay, finishedCall};
 ghost use Rattle.scheduler.specs.Laws.Finish.{Playing};
+use codec::cell::op_cell;
 use codec::limit::TASKS;
 use codec::limit::least;
 use codec::number::DIFFERS;
@@ -75,6 +76,7 @@ pub(crate) fn finish(run: Run, bytes: &[u8], memory: &mut [u32]) -> Played
         let n = lowest(
             run.tasks,
             run.objects,
+            run.fields,
             bytes,
             &mut places,
             &ends,
@@ -87,11 +89,12 @@ pub(crate) fn finish(run: Run, bytes: &[u8], memory: &mut [u32]) -> Played
             let done = all_done(run.tasks, &dones, &counts);
             return result_of(run.tasks, run.objects, steps, done, 0, 0);
         };
-        if !agrees(op, memory) {
+        let cell = op_cell(run.fields, op);
+        if !agrees(op, cell, memory) {
             let at = record_at(op, places[task]);
             return result_of(run.tasks, run.objects, steps, false, DIFFERS, at);
         }
-        perform(op, memory);
+        perform(op, cell, memory);
         steps += 1;
     }
 }

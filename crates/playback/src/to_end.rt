@@ -1,12 +1,14 @@
 // A recording played to its end in one call: opened, then the lowest ready task is stepped until a step is not taken.
 ghost use mathlib.Core.Path.{_≡_};
 ghost use lib.ListN.{length};
+ghost use Rattle.codec.specs.Cell.{cellsOf};
 ghost use Rattle.reader.specs.Layout.{layoutOf};
 ghost use Rattle.reader.specs.Parse.{parse};
 ghost use Rattle.playback.specs.Shown.{shownPlay};
 ghost use Rattle.playback.specs.ToEnd.{playOf, refusedEnd, toEndOf};
 use crate::finish::Played;
 use crate::finish::finish;
+use codec::cell::cells_of;
 use codec::number::ENTRIES;
 use entries::Checked;
 use reader::layout::Layout;
@@ -39,7 +41,7 @@ fn refused(number: u32, offset: usize) -> Replayed
 
 // Plays a checked recording from its opening to where it ends.
 pub(crate) fn play(bytes: &[u8], l: Layout, memory: &mut [u32]) -> Played
-    requires { ⌜ (l ≡ layoutOf (parse (now bytes))) × (l .number ≡ 0) × (length (now memory) ≡ l .objects) ⌝ }
+    requires { ⌜ (l ≡ layoutOf (parse (now bytes))) × (l .number ≡ 0) × (length (now memory) ≡ cellsOf (l .fields) (l .objects)) ⌝ }
     ensures { λ r. ⌜ r ≡ shownPlay (now (bytes .entry)) (playOf (now (bytes .entry)) (now (memory .entry))) ⌝ }
     ensures { λ r. ⌜ now (memory .exit) ≡ playOf (now (bytes .entry)) (now (memory .entry)) .memory ⌝ }
 {
@@ -56,7 +58,7 @@ pub fn replay_to_end(bytes: &[u8], memory: &mut [u32]) -> Replayed
     if l.number != 0 {
         return refused(l.number, l.offset);
     }
-    if memory.len() != l.objects {
+    if memory.len() != cells_of(l.fields, l.objects) {
         return refused(ENTRIES, 0);
     }
     let p = play(bytes, l, memory);

@@ -5,6 +5,7 @@ pub mod Numbered
 pub mod PausedProved
 pub mod PlayableProved
 pub mod Ran
+pub mod Sized
 pub mod WholeAnswer
 pub mod WholeRecording
 pub mod WholeText

@@ -6,6 +6,7 @@ use mathlib.Core.List.{List, _++_, map}
 use mathlib.Core.Path.{_≡_}
 use Prim.Native.Nat.{ℕ}
 use lib.ListN.{length}
+use Rattle.faults.specs.Reading.{textSizes}
 use Rattle.fidelity.specs.Box.{Opening, Asked, recorded, recordingBy}
 use Rattle.fidelity.specs.Counted.{written}
 use Rattle.lines.specs.AccessLines.{accessLines}
@@ -18,6 +19,6 @@ use Rattle.programs.specs.Wanted.{wantedIn, wantedBy}
 pub record Listed (text : List ℕ) : Type 0 where
   pub opening : Opening
   pub asked : List Asked
-  pub asks : map wantedBy asked ≡ map wantedIn (accessLines text)
+  pub asks : map wantedBy asked ≡ map (wantedIn (textSizes text .named)) (accessLines text)
   pub recorded-each : length (recorded opening asked) ≡ length (accessLines text)
   pub is : textOf false 0 (recordOf text .bytes) ≡ recordingLines (recordingBy opening asked) ++ recordsLine (written opening asked)

@@ -3,6 +3,7 @@ pub mod Answers
 pub mod Bodies
 pub mod BodyStrict
 pub mod CallsCode
+pub mod CellsByHead
 pub mod HeadCode
 pub mod Joined
 pub mod Laid
@@ -10,7 +11,6 @@ pub mod Layout
 pub mod LocateCode
 pub mod Located
 pub mod Numbered
-pub mod Objects
 pub mod OneByOne
 pub mod Range
 pub mod Roundtrip

@@ -2,12 +2,14 @@
 ghost use Prim.Native.Nat.{_+_, _≤_};
 ghost use lib.ListN.{length};
 ghost use Rattle.text.specs.Appended.{Appended};
-ghost use Rattle.record_lines.specs.RecordLines.{headLine, sectionLine, orderingLine, valueOf, accessLine, lineAt, recordsLine};
+ghost use Rattle.record_lines.specs.RecordLines.{objectsOf, headLine, sectionLine, orderingLine, valueOf, accessLine, lineAt, recordsLine};
 use codec::Op;
 use codec::Position;
 use codec::Record;
+use codec::head::fields_of;
 use codec::kind::stores_value;
 use replay_lines::letter;
+use replay_lines::put_object;
 use text::put_byte;
 use text::put_bytes;
 use text::put_field;
@@ -19,14 +21,26 @@ pub struct Place {
     pub number: usize,
 }
 
-fn put_head(out: &mut [u8], end: usize, at: usize, tasks: u16, objects: u16) -> usize
-    requires { ⌜ end + length (headLine at tasks objects) ≤ length (now out) ⌝ }
-    ensures { λ r. ⌜ Appended (headLine at tasks objects) (now (out .entry)) end (now (out .exit)) r ⌝ }
+// N, and F if objects have fields.
+fn put_objects(out: &mut [u8], end: usize, objects: u16, fields: usize) -> usize
+    requires { ⌜ end + length (objectsOf objects fields) ≤ length (now out) ⌝ }
+    ensures { λ r. ⌜ Appended (objectsOf objects fields) (now (out .entry)) end (now (out .exit)) r ⌝ }
+{
+    if fields == 0 {
+        return put_field(out, end, objects as u64, b'\n');
+    }
+    let a = put_field(out, end, objects as u64, b' ');
+    put_field(out, a, fields as u64, b'\n')
+}
+
+fn put_head(out: &mut [u8], end: usize, at: usize, tasks: u16, objects: u16, fields: usize) -> usize
+    requires { ⌜ end + length (headLine at tasks objects fields) ≤ length (now out) ⌝ }
+    ensures { λ r. ⌜ Appended (headLine at tasks objects fields) (now (out .entry)) end (now (out .exit)) r ⌝ }
 {
     let a = put_field(out, end, at as u64, b' ');
     let b = put_bytes(out, a, b"head ");
     let c = put_field(out, b, tasks as u64, b' ');
-    put_field(out, c, objects as u64, b'\n')
+    put_objects(out, c, objects, fields)
 }
 
 fn put_section(out: &mut [u8], end: usize, at: usize, task: u16, accesses: u16, size: u32) -> usize
@@ -72,7 +86,7 @@ fn put_access(out: &mut [u8], end: usize, at: usize, own: usize, number: usize, 
     let c = put_field(out, b, number as u64, b' ');
     let d = put_byte(out, c, letter(o.kind));
     let e = put_byte(out, d, b' ');
-    let f = put_field(out, e, o.object as u64, b' ');
+    let f = put_object(out, e, o.kind, o.object as usize, o.field as usize);
     put_value(out, f, o)
 }
 
@@ -82,7 +96,19 @@ pub fn put_line(out: &mut [u8], end: usize, p: Place, r: Record) -> usize
     ensures { λ e. ⌜ Appended (lineAt p r) (now (out .entry)) end (now (out .exit)) e ⌝ }
 {
     match r {
-        Record::Head { tasks, objects } => put_head(out, end, p.at, tasks, objects),
+        Record::Head {
+            kind,
+            tasks,
+            objects,
+            width,
+        } => put_head(
+            out,
+            end,
+            p.at,
+            tasks,
+            objects,
+            fields_of(kind, width as usize),
+        ),
         Record::Section {
             task,
             accesses,

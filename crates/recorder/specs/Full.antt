@@ -8,7 +8,7 @@ use Rattle.recorder.specs.WholeRun.{AccessCall, Call, Box, outcome, call
 
 -- task 0 reads object 0
 abbrev pub again : AccessCall
-again = record { task = 0; object = 0; sort = 0; value = 0; out = replicate 138 0 }
+again = record { task = 0; object = 0; field = 0; sort = 0; value = 0; out = replicate 140 0 }
 
 -- an opening with one task and one object, and the box after it
 abbrev pub opening : OpenOutcome

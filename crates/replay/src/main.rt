@@ -49,10 +49,11 @@ Reads FILE; with no FILE, or with -, standard input. A recording has at most 65,
   --order FILE       follows the task numbers in FILE, one a line (a first line yes N, as playable writes it, is
                      passed over); at most 65,536 bytes; - is standard input
 
-Writes to standard output one line for each step: task, number of the access, R or W, object, value.
-Then end or stuck with the number of steps, then memory with its values. If a read's record has another
-value than the memory, it writes refused 19 and the offset of that record, and stops. If the input is not a
-valid recording it writes refused, a number, and the offset of the record that failed.
+Writes to standard output one line for each step: task, number of the access, R or W, object, value; with
+fields the field stands after the object. Then end or stuck with the number of steps, then memory with its
+values. If a read's record has another value than the memory, it writes refused 19 and the offset of that
+record, and stops. If the input is not a valid recording it writes refused, a number, and the offset of the
+record that failed.
 
 With an option it writes, where it stops with accesses left: paused with the number of steps, done with the
 accesses that each task has done, ready with the ready tasks, then memory. A step of the order that cannot be

@@ -2,7 +2,7 @@
 use mathlib.Core.Bool.{Bool, cond}
 use mathlib.Core.List.{List, [], _∷_, _++_}
 use Prim.Native.Nat.{ℕ}
-use Rattle.codec.specs.Kind.{reads}
+use Rattle.codec.specs.Kind.{reads, hasField}
 use Rattle.replayer.specs.declared.Stepped.{Stepped}
 use Rattle.text.specs.Decimal.{decimalOf, fieldOf}
 
@@ -18,9 +18,14 @@ refusalOf number offset = (114 ∷ 101 ∷ 102 ∷ 117 ∷ 115 ∷ 101 ∷ 100 �
 abbrev pub letterOf : ℕ → ℕ
 letterOf kind = cond (reads kind) 82 87
 
--- task, number of the access, R or W, object, value, with single spaces between them
+-- the object, and its field where the access's kind names one: under head 7 (document 02, F-6)
+unfoldable pub objectOf : ℕ → ℕ → ℕ → List ℕ
+objectOf kind object field = cond (hasField kind) (fieldOf object 32 ++ fieldOf field 32) (fieldOf object 32)
+
+-- task, number of the access, R or W, object and field, value, with single spaces between them
 unfoldable pub lineOf : ℕ → Stepped → List ℕ
-lineOf task s = fieldOf task 32 ++ fieldOf (s .access) 32 ++ (letterOf (s .kind) ∷ 32 ∷ []) ++ fieldOf (s .object) 32 ++ fieldOf (s .value) 10
+lineOf task s =
+    fieldOf task 32 ++ fieldOf (s .access) 32 ++ (letterOf (s .kind) ∷ 32 ∷ []) ++ objectOf (s .kind) (s .object) (s .field) ++ fieldOf (s .value) 10
 
 -- `end` or `stuck`, and the number of steps
 unfoldable pub endLine : Bool → ℕ → List ℕ

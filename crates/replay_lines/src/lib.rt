@@ -5,7 +5,8 @@ ghost use lib.ListN.{length};
 ghost use Rattle.text.specs.Appended.{Appended};
 ghost use Rattle.text.specs.Zeros.{Zeros};
 ghost use Rattle.replay_lines.specs.Limits.{mostSteps};
-ghost use Rattle.replay_lines.specs.Lines.{letterOf, lineOf, endLine, refusalOf, memoryOf};
+ghost use Rattle.replay_lines.specs.Lines.{letterOf, objectOf, lineOf, endLine, refusalOf, memoryOf};
+use codec::kind::has_field;
 use codec::kind::reads;
 use replayer::Stepped;
 use text::put_byte;
@@ -51,7 +52,19 @@ pub fn letter(kind: u16) -> u8
     if reads(kind) { b'R' } else { b'W' }
 }
 
-// Task, number of the access, R or W, object, value.
+// The object, and its field if the access's kind names one.
+pub fn put_object(out: &mut [u8], at: usize, kind: u16, object: usize, field: usize) -> usize
+    requires { ⌜ at + length (objectOf kind object field) ≤ length (now out) ⌝ }
+    ensures { λ r. ⌜ Appended (objectOf kind object field) (now (out .entry)) at (now (out .exit)) r ⌝ }
+{
+    let end = put_field(out, at, object as u64, b' ');
+    if has_field(kind) {
+        return put_field(out, end, field as u64, b' ');
+    }
+    end
+}
+
+// Task, number of the access, R or W, object and field, value.
 pub fn put_step(out: &mut [u8], at: usize, task: usize, s: Stepped) -> usize
     requires { ⌜ at + length (lineOf task s) ≤ length (now out) ⌝ }
     ensures { λ r. ⌜ Appended (lineOf task s) (now (out .entry)) at (now (out .exit)) r ⌝ }
@@ -60,7 +73,7 @@ pub fn put_step(out: &mut [u8], at: usize, task: usize, s: Stepped) -> usize
     let b = put_field(out, a, s.access as u64, b' ');
     let c = put_byte(out, b, letter(s.kind));
     let d = put_byte(out, c, b' ');
-    let e = put_field(out, d, s.object as u64, b' ');
+    let e = put_object(out, d, s.kind, s.object, s.field);
     put_field(out, e, s.value as u64, b'\n')
 }
 

@@ -4,4 +4,4 @@ use Rattle.replayer.specs.declared.Stepped.{Stepped}
 use Rattle.replayer.specs.declared.in_place.Step.{Step}
 
 abbrev pub shownOf : Stepped → Step
-shownOf s = record { number = s .number; offset = s .offset; kind = s .kind; object = s .object; value = s .value; access = s .access }
+shownOf s = record { number = s .number; offset = s .offset; kind = s .kind; object = s .object; field = s .field; value = s .value; access = s .access }

@@ -12,6 +12,7 @@ pub struct Step {
     pub offset: usize,
     pub kind: u16,
     pub object: usize,
+    pub field: usize,
     pub value: u32,
     pub access: usize,
 }
@@ -25,6 +26,7 @@ fn shown(s: Stepped) -> Step
         offset: s.offset,
         kind: s.kind,
         object: s.object,
+        field: s.field,
         value: s.value,
         access: s.access,
     }

@@ -53,16 +53,18 @@ pub fn started(l: Layout) -> Run
     Run {
         tasks: l.tasks,
         objects: l.objects,
+        fields: l.fields,
         runs,
     }
 }
 
-// The run at the start of a layout, with the memory set. For a layout that `locate` found and a memory of N entries, this is the opening.
+// The run at the start of a layout, with the memory set. For a layout that `locate` found and a memory with an entry for each cell, this is
+// the opening.
 pub fn begin(bytes: &[u8], l: Layout, memory: &mut [u32]) -> Run
     ensures { λ r. ⌜ r ≡ begunOf l ⌝ }
-    ensures { λ r. ⌜ now (memory .exit) ≡ startingIn (now (bytes .entry)) (now (memory .entry)) ⌝ }
+    ensures { λ r. ⌜ now (memory .exit) ≡ startingIn (l .fields) (l .objects) (now (bytes .entry)) (now (memory .entry)) ⌝ }
 {
-    set_starting(bytes, memory);
+    set_starting(bytes, l.fields, l.objects, memory);
     started(l)
 }
 
@@ -74,6 +76,7 @@ pub(crate) fn refused(number: u32, offset: usize) -> Opened
     let run = Run {
         tasks: 0,
         objects: 0,
+        fields: 0,
         runs,
     };
     Opened {

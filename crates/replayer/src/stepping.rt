@@ -9,6 +9,7 @@ ghost use Rattle.replayer.specs.StepOf.{refusedStep, earlyNumber, record
 ghost use Rattle.replayer.specs.Laws.StepOf.{lateRefusal};
 use crate::Stepped;
 use codec::Op;
+use codec::cell::cells_of;
 use codec::kind::length_of;
 use codec::kind::valued_read;
 use codec::kind::writes;
@@ -30,7 +31,7 @@ pub(crate) fn early_number(run: Run, size: usize, entries: usize, task: usize) -
     if !sound(run, size) {
         return UNSOUND;
     }
-    if entries != run.objects {
+    if entries != cells_of(run.fields, run.objects) {
         return ENTRIES;
     }
     if run.tasks <= task {
@@ -51,6 +52,7 @@ pub(crate) fn refused(run: Run, number: u32, offset: usize) -> Stepped
         offset,
         kind: 0,
         object: 0,
+        field: 0,
         value: 0,
         access: 0,
         run,
@@ -74,17 +76,16 @@ pub(crate) fn late_refusal(n: Next) -> Checked
     }
 }
 
-// Whether the memory holds the value of a read's record; true if the record holds none. Past the memory's end there is 0.
-pub fn agrees(op: Op, memory: &[u32]) -> bool
-    ensures { λ r. ⌜ r ≡ agreesWith op (now (memory .entry)) ⌝ }
+// Whether the memory holds the value of a read's record in its cell; true if the record holds none. Past the memory's end there is 0.
+pub fn agrees(op: Op, cell: usize, memory: &[u32]) -> bool
+    ensures { λ r. ⌜ r ≡ agreesWith cell op (now (memory .entry)) ⌝ }
 {
     if !valued_read(op.kind) {
         return true;
     }
-    let o = op.object as usize;
     let value = op.value;
-    if o < memory.len() {
-        return memory[o] == value;
+    if cell < memory.len() {
+        return memory[cell] == value;
     }
     0 == value
 }
@@ -98,20 +99,19 @@ pub fn record_at(op: Op, next: usize) -> usize
 }
 
 // A read returns the memory's value, a write stores and returns its own. Past the memory's end nothing is stored, and 0 is returned.
-pub fn perform(op: Op, memory: &mut [u32]) -> u32
-    ensures { λ r. ⌜ r ≡ valueOf op (now (memory .entry)) ⌝ }
-    ensures { λ r. ⌜ now (memory .exit) ≡ performed op (now (memory .entry)) ⌝ }
+pub fn perform(op: Op, cell: usize, memory: &mut [u32]) -> u32
+    ensures { λ r. ⌜ r ≡ valueOf cell op (now (memory .entry)) ⌝ }
+    ensures { λ r. ⌜ now (memory .exit) ≡ performed cell op (now (memory .entry)) ⌝ }
 {
-    let o = op.object as usize;
     let value = op.value;
     if writes(op.kind) {
-        if o < memory.len() {
-            memory[o] = value;
+        if cell < memory.len() {
+            memory[cell] = value;
         }
         return value;
     }
-    if o < memory.len() {
-        return memory[o];
+    if cell < memory.len() {
+        return memory[cell];
     }
     0
 }
@@ -133,6 +133,7 @@ pub(crate) fn moved(run: Run, task: usize, next: usize, access: usize) -> Run
     Run {
         tasks: run.tasks,
         objects: run.objects,
+        fields: run.fields,
         runs,
     }
 }

@@ -12,11 +12,11 @@ use Rattle.reader.specs.Calls.{checkedOf}
 
 -- one task, one object, no access
 abbrev smallest : Recording
-smallest = record { tasks = 1; owners = 0 ∷ []; values = 0 ∷ []; bodies = [] ∷ [] }
+smallest = record { tasks = 1; fields = 0; owners = 0 ∷ []; values = 0 ∷ []; bodies = [] ∷ [] }
 
 -- an ordering with source number 0
 abbrev zeroth : Recording
-zeroth = record { tasks = 2; owners = 0 ∷ []; values = 0 ∷ []; bodies = (record { orderings = record { task = 1; number = 0 } ∷ []; op = opOf false 0 0 } ∷ []) ∷ [] ∷ [] }
+zeroth = record { tasks = 2; fields = 0; owners = 0 ∷ []; values = 0 ∷ []; bodies = (record { orderings = record { task = 1; number = 0 } ∷ []; op = opOf 0 false 0 0 0 } ∷ []) ∷ [] ∷ [] }
 
 pub record Bytes : Type 0 where
   pub none : checkedOf (parse []) ≡ stop 10 0

@@ -14,14 +14,14 @@ use Rattle.recorder.specs.WholeRun.{Call, Box, outcome, calledAll, packed}
 abbrev opening : ℕ → OpenOutcome
 opening tasks = openOf tasks 2 (0 ∷ 0 ∷ []) (0 ∷ 0 ∷ []) (1 ∷ 1 ∷ []) (replicate 18 0)
 
-abbrev opened-box : ℕ → Box
+abbrev pub opened-box : ℕ → Box
 opened-box tasks = record { state = opening tasks .answer .state; memory = opening tasks .memory; logs = λ t. [] }
 
 abbrev reads : ℕ → ℕ → Call
-reads task object = Call.access (record { task = task; object = object; sort = 0; value = 0; out = replicate 40 0 })
+reads task object = Call.access (record { task = task; object = object; field = 0; sort = 0; value = 0; out = replicate 40 0 })
 
 abbrev writes : ℕ → ℕ → ℕ → Call
-writes task object value = Call.access (record { task = task; object = object; sort = 1; value = value; out = replicate 40 0 })
+writes task object value = Call.access (record { task = task; object = object; field = 0; sort = 1; value = value; out = replicate 40 0 })
 
 -- run A: T = 2; task 0 writes 7, task 1 reads it, task 0 reads it, task 1 writes 9
 abbrev run-a : List Call
@@ -35,7 +35,7 @@ recording-a = opening 2 .out ++ packed (box-a .state) (box-a .logs) (λ t. repli
 
 -- a write by row 1 with an output of n bytes
 abbrev row-one : ℕ → Box → ℕ
-row-one n b = outcome b (record { task = 0; object = 0; sort = 1; value = 7; out = replicate n 0 }) .answer .number
+row-one n b = outcome b (record { task = 0; object = 0; field = 0; sort = 1; value = 7; out = replicate n 0 }) .answer .number
 
 pub record Calls : Type 0 where
   -- run A: bodies of 28 and 36 bytes, a recording of 106 bytes, which the reader accepts; memory 9 and 0. Document 01's sizes are those

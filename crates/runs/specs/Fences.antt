@@ -17,7 +17,8 @@ abbrev withSeen : State → List ℕ → State
 withSeen s seen = record {
   tasks = s .tasks;
   objects = s .objects;
-  records = s .records;
+  fields = s .fields;
+  cells = s .cells;
   done = s .done;
   seen = seen;
   took = s .took;

@@ -19,7 +19,7 @@ use Rattle.tracker.specs.State.{position}
 use Rattle.fidelity.specs.Bench.{Bench, benchOf, answerOf, stepped, steppedAll}
 
 abbrev op : ℕ → ℕ → Op
-op kind value = record { kind = kind; object = 0; value = value }
+op kind value = record { kind = kind; object = 0; field = 0; value = value }
 
 -- the two bodies, with this record for the reads
 abbrev first : Op → List Entry
@@ -29,7 +29,7 @@ abbrev second : Op → List Entry
 second read = record { orderings = position 0 1 ∷ []; op = read } ∷ record { orderings = position 0 2 ∷ []; op = op writeKind 9 } ∷ []
 
 abbrev run-a : Op → Recording
-run-a read = record { tasks = 2; owners = 0 ∷ 0 ∷ []; values = 0 ∷ 0 ∷ []; bodies = first read ∷ second read ∷ [] }
+run-a read = record { tasks = 2; fields = 0; owners = 0 ∷ 0 ∷ []; values = 0 ∷ 0 ∷ []; bodies = first read ∷ second read ∷ [] }
 
 -- with reads of kind 4, with reads of kind 6, and with a value that the box did not read
 abbrev bare : List ℕ

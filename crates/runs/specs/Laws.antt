@@ -2,6 +2,7 @@
 pub mod Bytes
 pub mod Calls
 pub mod Fences
+pub mod Fields
 pub mod Kinds
 pub mod Rows
 pub mod Table

@@ -45,7 +45,7 @@ trackedAll s accesses = trackedBy stateAfter s accesses
 
 -- two objects, both owned by task 0
 abbrev pub opened : ℕ → State
-opened tasks = openedState tasks 2 (0 ∷ 0 ∷ [])
+opened tasks = openedState tasks 2 0 (0 ∷ 0 ∷ [])
 
 pub record Rows : Type 0 where
   -- run A

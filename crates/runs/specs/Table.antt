@@ -1,9 +1,10 @@
--- THE TABLE of the runs on the bench that are marked P (document 01, "Runs on the bench"), and one theorem for all of it.
+-- THE TABLE of the runs on the bench that are marked P (document 01, "Runs on the bench") and of those with fields, and one theorem for all of it.
 use Rattle.recorder.specs.Full.{Full}
 use Rattle.runs.specs.Rows.{Rows}
 use Rattle.runs.specs.Calls.{Calls}
 use Rattle.runs.specs.Bytes.{Bytes}
 use Rattle.runs.specs.Kinds.{Kinds}
+use Rattle.runs.specs.Fields.{Fields}
 use Rattle.runs.specs.Whole.{Whole}
 
 pub record Table : Type 0 where
@@ -19,3 +20,5 @@ pub record Table : Type 0 where
   pub kind-runs : Kinds
   -- run A end to end: its ready words, and its replay
   pub whole-run : Whole
+  -- fields inside an object (document 02, F-6): two fields with a state each, and the number 20
+  pub field-runs : Fields

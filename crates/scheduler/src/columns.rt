@@ -38,12 +38,13 @@ pub fn columns_of(run: Run) -> Columns
 pub fn run_of(
     tasks: usize,
     objects: usize,
+    fields: usize,
     places: &[usize; TASKS],
     ends: &[usize; TASKS],
     dones: &[usize; TASKS],
     counts: &[usize; TASKS],
 ) -> Run
-    ensures { λ r. ⌜ r ≡ runOf tasks objects (now (places .entry)) (now (ends .entry)) (now (dones .entry)) (now (counts .entry)) ⌝ }
+    ensures { λ r. ⌜ r ≡ runOf tasks objects fields (now (places .entry)) (now (ends .entry)) (now (dones .entry)) (now (counts .entry)) ⌝ }
 {
     let blank = TaskRun {
         place: 0,
@@ -64,6 +65,7 @@ pub fn run_of(
     Run {
         tasks,
         objects,
+        fields,
         runs,
     }
 }

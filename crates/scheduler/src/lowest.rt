@@ -21,6 +21,7 @@ pub enum NextStep {
 pub fn lowest(
     tasks: usize,
     objects: usize,
+    fields: usize,
     bytes: &[u8],
     places: &mut [usize; TASKS],
     ends: &[usize; TASKS],
@@ -29,11 +30,11 @@ pub fn lowest(
     scans: &mut [usize; TASKS],
     ats: &mut [usize; TASKS],
 ) -> NextStep
-    requires { ⌜ Columned (now bytes) tasks objects (now places) (now ends) (now dones) (now counts) (now scans) (now ats) ⌝ }
-    ensures { λ r. ⌜ r ≡ lowestOf (runOf tasks objects (now (places .entry)) (now (ends .entry)) (now (dones .entry)) (now (counts .entry))) (now (bytes .entry)) ⌝ }
-    ensures { λ r. ⌜ runOf tasks objects (now (places .exit)) (now (ends .entry)) (now (dones .exit)) (now (counts .entry))
-        ≡ afterOf (runOf tasks objects (now (places .entry)) (now (ends .entry)) (now (dones .entry)) (now (counts .entry))) (now (bytes .entry)) ⌝ }
-    ensures { λ r. ⌜ Columned (now (bytes .entry)) tasks objects (now (places .exit)) (now (ends .entry)) (now (dones .exit)) (now (counts .entry)) (now (scans .exit)) (now (ats .exit)) ⌝ }
+    requires { ⌜ Columned (now bytes) tasks objects fields (now places) (now ends) (now dones) (now counts) (now scans) (now ats) ⌝ }
+    ensures { λ r. ⌜ r ≡ lowestOf (runOf tasks objects fields (now (places .entry)) (now (ends .entry)) (now (dones .entry)) (now (counts .entry))) (now (bytes .entry)) ⌝ }
+    ensures { λ r. ⌜ runOf tasks objects fields (now (places .exit)) (now (ends .entry)) (now (dones .exit)) (now (counts .entry))
+        ≡ afterOf (runOf tasks objects fields (now (places .entry)) (now (ends .entry)) (now (dones .entry)) (now (counts .entry))) (now (bytes .entry)) ⌝ }
+    ensures { λ r. ⌜ Columned (now (bytes .entry)) tasks objects fields (now (places .exit)) (now (ends .entry)) (now (dones .exit)) (now (counts .entry)) (now (scans .exit)) (now (ats .exit)) ⌝ }
 {
     for t in 0..tasks {
         let x = TaskRun {
@@ -45,6 +46,7 @@ pub fn lowest(
         let limits = Limits {
             tasks,
             objects,
+            fields,
             own: t,
         };
         let n = visit(x, bytes, limits, dones, scans, ats);

@@ -31,6 +31,7 @@ pub fn schedule(run: Run, bytes: &[u8], out: &mut [u8]) -> usize
         let n = lowest(
             run.tasks,
             run.objects,
+            run.fields,
             bytes,
             &mut places,
             &ends,

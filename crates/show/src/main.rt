@@ -14,10 +14,11 @@ Reads FILE; with no FILE, or with -, standard input. A recording has at most 65,
 With --task TASK it lists only the section of that task.
 
 Each line begins with the offset of its record:
-  0 head T N                        T tasks, N objects
+  0 head T N                        T tasks, N objects; T N F if each object has F fields
   18 section TASK ACCESSES BYTES    a task, how many accesses it has, how many bytes their records take
   40 ordering 0 after 1 1           the next access of task 0 comes after access 1 of task 1
-  48 0 2 R 0 7                      access 2 of task 0 is a read of object 0 and got 7; W is a write
+  48 0 2 R 0 7                      access 2 of task 0 is a read of object 0 and got 7; W is a write;
+                                    with fields the field stands after the object
 A read that was recorded without its value has - instead of it.
 The last line says how many records the whole file has, with --task too:
   records 10                        head, sections, orderings and accesses together

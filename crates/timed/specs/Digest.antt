@@ -10,5 +10,6 @@ abbrev pub accessWord : ℕ → ℕ → ℕ → ℕ → ℕ → ℕ
 accessWord number value row class written = value + 4294967296 * (row + 16 * class + 8192 * (number % 32) + 262144 * (written % 256))
 
 -- a step's answer, with the task it named
-abbrev pub stepWord : ℕ → ℕ → ℕ → ℕ → ℕ → ℕ
-stepWord task kind object value access = value + 4294967296 * (task % 16 + 16 * (kind % 8) + 128 * (object % 256) + 32768 * (access % 2048))
+abbrev pub stepWord : ℕ → ℕ → ℕ → ℕ → ℕ → ℕ → ℕ
+stepWord task kind object field value access =
+    value + 4294967296 * (task % 16 + 16 * (kind % 16) + 256 * (object % 256) + 65536 * (field % 8) + 524288 * (access % 128))

@@ -25,7 +25,7 @@ abbrev pub stepped : ℕ → ℕ → StepOutcome → Replayed
 stepped digest task o = record {
   run = o .answer .run;
   memory = o .memory;
-  digest = mixedIn digest (stepWord task (o .answer .kind) (o .answer .object) (o .answer .value) (o .answer .access));
+  digest = mixedIn digest (stepWord task (o .answer .kind) (o .answer .object) (o .answer .field) (o .answer .value) (o .answer .access));
 }
 
 -- the lowest ready task, 16 if there is none

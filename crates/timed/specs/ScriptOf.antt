@@ -1,10 +1,12 @@
--- A recording opened, and a script of accesses run on it: a fold of the recorder's `accessOf`, starting with its `openOf`. An access is
--- four numbers of the script: task, object, sort, value. A rest of fewer than four is ignored.
+-- A recording opened, and a script of accesses run on it: a fold of the recorder's `accessOf`, starting with an opening. An access is
+-- five numbers of the script: task, object, field, sort, value. A rest of fewer than five is ignored.
+use mathlib.Core.Bool.{cond}
 use mathlib.Core.List.{List}
 use Prim.Native.Nat.{ℕ, zero, suc, _+_, _*_, _/_}
+use lib.Dec.{eqb}
 use lib.ListN.{length, getD}
 use Rattle.recorder.specs.AccessOf.{AccessOutcome, accessOf}
-use Rattle.opening.specs.OpenOf.{OpenOutcome, openOf}
+use Rattle.opening.specs.OpenOf.{OpenOutcome, openOf, openFieldsOf}
 use Rattle.tracker.specs.declared.State.{State}
 use Rattle.timed.specs.Digest.{mixedIn, accessWord}
 
@@ -29,13 +31,18 @@ accessed digest o = record {
 -- access i of a script
 abbrev pub accessAt : List ℕ → ℕ → Scripted → Scripted
 accessAt script i x =
-    accessed (x .digest) (accessOf (x .state) (getD script (4 * i) 0) (getD script (4 * i + 1) 0) (getD script (4 * i + 2) 0) (getD script (4 * i + 3) 0) (x .memory) (x .out))
+    accessed (x .digest) (accessOf (x .state) (getD script (5 * i) 0) (getD script (5 * i + 1) 0) (getD script (5 * i + 2) 0) (getD script (5 * i + 3) 0) (getD script (5 * i + 4) 0) (x .memory) (x .out))
 
 -- the first n accesses
 unfoldable pub accessesTo : List ℕ → ℕ → Scripted → Scripted
 accessesTo script zero x = x
 accessesTo script (suc n) x = accessAt script n (accessesTo script n x)
 
-abbrev pub scriptOf : ℕ → ℕ → List ℕ → List ℕ → List ℕ → List ℕ → List ℕ → Scripted
-scriptOf tasks objects owners starts script memory out =
-    accessesTo script (length script / 4) (opened (openOf tasks objects owners starts memory out))
+-- the old opening for 0 fields
+abbrev pub opening : ℕ → ℕ → ℕ → List ℕ → List ℕ → List ℕ → List ℕ → OpenOutcome
+opening tasks objects fields owners starts memory out =
+    cond (eqb fields 0) (openOf tasks objects owners starts memory out) (openFieldsOf tasks objects fields owners starts memory out)
+
+abbrev pub scriptOf : ℕ → ℕ → ℕ → List ℕ → List ℕ → List ℕ → List ℕ → List ℕ → Scripted
+scriptOf tasks objects fields owners starts script memory out =
+    accessesTo script (length script / 5) (opened (opening tasks objects fields owners starts memory out))

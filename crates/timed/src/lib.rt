@@ -5,7 +5,8 @@ ghost use mathlib.Core.Path.{_≡_};
 ghost use Prim.Native.Nat.{_<_};
 ghost use Rattle.timed.specs.Digest.{mixedIn, accessWord, stepWord};
 ghost use Rattle.timed.specs.ReplayOf.{replayOf};
-ghost use Rattle.timed.specs.ScriptOf.{scriptOf};
+ghost use Rattle.timed.specs.ScriptOf.{opening, scriptOf};
+use opening::Opened;
 use replayer::lowest_ready;
 use replayer::ready;
 
@@ -32,42 +33,66 @@ fn access_word(number: u32, value: u32, row: u8, class: u8, written: usize) -> u
     (value as u64) + 4294967296 * above
 }
 
-fn step_word(task: usize, kind: u16, object: usize, value: u32, access: usize) -> u64
-    ensures { λ r. ⌜ (r ≡ stepWord task kind object value access) × (r < 288230376151711744) ⌝ }
+fn step_word(task: usize, kind: u16, object: usize, field: usize, value: u32, access: usize) -> u64
+    ensures { λ r. ⌜ (r ≡ stepWord task kind object field value access) × (r < 288230376151711744) ⌝ }
 {
     let above = (task as u64 % 16)
-        + 16 * (kind as u64 % 8)
-        + 128 * (object as u64 % 256)
-        + 32768 * (access as u64 % 2048);
+        + 16 * (kind as u64 % 16)
+        + 256 * (object as u64 % 256)
+        + 65536 * (field as u64 % 8)
+        + 524288 * (access as u64 % 128);
     (value as u64) + 4294967296 * above
 }
 
-// Opens a recording and runs a script of accesses on it, four numbers each: task, object, sort, value. All write to the same output.
+// The old opening for 0 fields.
+fn opened(
+    tasks: usize,
+    objects: usize,
+    fields: usize,
+    owners: &[u8],
+    starts: &[u32],
+    memory: &mut [u32],
+    out: &mut [u8],
+) -> Opened
+    ensures { λ r. ⌜ r ≡ opening tasks objects fields (now (owners .entry)) (now (starts .entry)) (now (memory .entry)) (now (out .entry)) .answer ⌝ }
+    ensures { λ r. ⌜ now (memory .exit) ≡ opening tasks objects fields (now (owners .entry)) (now (starts .entry)) (now (memory .entry)) (now (out .entry)) .memory ⌝ }
+    ensures { λ r. ⌜ now (out .exit) ≡ opening tasks objects fields (now (owners .entry)) (now (starts .entry)) (now (memory .entry)) (now (out .entry)) .out ⌝ }
+{
+    if fields == 0 {
+        return opening::open(tasks, objects, owners, starts, memory, out);
+    }
+    opening::open_fields(tasks, objects, fields, owners, starts, memory, out)
+}
+
+// Opens a recording and runs a script of accesses on it, five numbers each: task, object, field, sort, value. All write to the same
+// output.
 #[no_mangle]
 pub extern "C" fn wk_script(
     tasks: usize,
     objects: usize,
+    fields: usize,
     owners: &[u8],
     starts: &[u32],
     script: &[u32],
     memory: &mut [u32],
     out: &mut [u8],
 ) -> u64
-    ensures { λ r. ⌜ r ≡ scriptOf tasks objects (now (owners .entry)) (now (starts .entry)) (now (script .entry)) (now (memory .entry)) (now (out .entry)) .digest ⌝ }
-    ensures { λ r. ⌜ now (memory .exit) ≡ scriptOf tasks objects (now (owners .entry)) (now (starts .entry)) (now (script .entry)) (now (memory .entry)) (now (out .entry)) .memory ⌝ }
-    ensures { λ r. ⌜ now (out .exit) ≡ scriptOf tasks objects (now (owners .entry)) (now (starts .entry)) (now (script .entry)) (now (memory .entry)) (now (out .entry)) .out ⌝ }
+    ensures { λ r. ⌜ r ≡ scriptOf tasks objects fields (now (owners .entry)) (now (starts .entry)) (now (script .entry)) (now (memory .entry)) (now (out .entry)) .digest ⌝ }
+    ensures { λ r. ⌜ now (memory .exit) ≡ scriptOf tasks objects fields (now (owners .entry)) (now (starts .entry)) (now (script .entry)) (now (memory .entry)) (now (out .entry)) .memory ⌝ }
+    ensures { λ r. ⌜ now (out .exit) ≡ scriptOf tasks objects fields (now (owners .entry)) (now (starts .entry)) (now (script .entry)) (now (memory .entry)) (now (out .entry)) .out ⌝ }
 {
-    let opened = opening::open(tasks, objects, owners, starts, memory, out);
-    let mut state = opened.state;
+    let o = opened(tasks, objects, fields, owners, starts, memory, out);
+    let mut state = o.state;
     let mut digest: u64 = 0;
-    for i in 0..script.len() / 4 {
-        let at = 4 * i;
+    for i in 0..script.len() / 5 {
+        let at = 5 * i;
         let a = recorder::access(
             state,
             wide(script[at]),
             wide(script[at + 1]),
-            script[at + 2],
+            wide(script[at + 2]),
             script[at + 3],
+            script[at + 4],
             memory,
             out,
         );
@@ -99,7 +124,10 @@ pub extern "C" fn wk_replay(bytes: &[u8], memory: &mut [u32]) -> u64
         if s.access == 0 {
             return digest;
         }
-        digest = mixed(digest, step_word(task, s.kind, s.object, s.value, s.access));
+        digest = mixed(
+            digest,
+            step_word(task, s.kind, s.object, s.field, s.value, s.access),
+        );
         run = s.run;
     }
     digest

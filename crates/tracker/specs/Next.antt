@@ -11,7 +11,7 @@ use Rattle.tracker.specs.declared.Row.{Row}
 use Rattle.tracker.specs.declared.Row.the-variants.{One, Two, Three, Four, Five, Six, Seven, Eight, Nine, Ten}
 use Rattle.tracker.specs.declared.State.{State}
 
--- the object's new state; `task` is T2
+-- the cell's new state; `task` is T2
 unfoldable pub localityAfter : Row → State → ℕ → Locality → Locality
 localityAfter One s task l = l
 localityAfter Two s task l = l
@@ -66,12 +66,13 @@ effectOf Eight s task l = record {
 effectOf Nine s task l = unchanged s task
 effectOf Ten s task l = unchanged s task
 
--- sets the object's record, the task's entries, G and Last; Done grows by one for that task only
+-- sets the cell's record, the task's entries, G and Last; Done grows by one for that task only
 abbrev pub stepped : State → ℕ → ℕ → Locality → Effect → State
-stepped s task object l e = record {
+stepped s task cell l e = record {
   tasks = s .tasks;
   objects = s .objects;
-  records = set (s .records) object (record { locality = l });
+  fields = s .fields;
+  cells = set (s .cells) cell (record { locality = l });
   done = set (s .done) task (numberNow s task);
   seen = set (s .seen) task (e .seen);
   took = set (s .took) task (e .took);
@@ -81,6 +82,6 @@ stepped s task object l e = record {
 
 -- the state after an access by the table
 unfoldable pub stateAfter : State → ℕ → ℕ → Bool → State
-stateAfter s task object write =
-    stepped s task object (localityAfter (rowAt s task object write) s task (localityOf s object))
-    (effectOf (rowAt s task object write) s task (localityOf s object))
+stateAfter s task cell write =
+    stepped s task cell (localityAfter (rowAt s task cell write) s task (localityOf s cell))
+    (effectOf (rowAt s task cell write) s task (localityOf s cell))

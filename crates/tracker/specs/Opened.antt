@@ -1,22 +1,29 @@
--- The state after opening (document 01: "Opening makes each object write-held by its owner"; everything else is 0).
+-- The state after opening (document 01: "Opening makes each object write-held by its owner"; document 02, F-6: its cells are "all first held
+-- by the object's owner"; everything else is 0).
 use mathlib.Core.List.{List}
-use Prim.Native.Nat.{ℕ, zero, suc}
+use Prim.Native.Nat.{ℕ, zero, suc, _/_}
 use lib.ListN.{getD, set, replicate}
-use Rattle.codec.specs.Limit.{maxTasks, maxObjects}
+use Rattle.codec.specs.Cell.{widthOf, cellsOf}
+use Rattle.codec.specs.Limit.{maxTasks, maxCells}
 use Rattle.tracker.specs.State.{owned, nowhere}
-use Rattle.tracker.specs.declared.ObjectRecord.{ObjectRecord}
+use Rattle.tracker.specs.declared.CellRecord.{CellRecord}
 use Rattle.tracker.specs.declared.State.{State}
 
--- the first n objects have their owners, and the others are blank
-unfoldable pub ownedRecords : List ℕ → ℕ → List ObjectRecord
-ownedRecords owners zero = replicate maxObjects (owned 0)
-ownedRecords owners (suc n) = set (ownedRecords owners n) n (owned (getD owners n 0))
+-- the owner of a cell's object: cells are numbered object by object
+abbrev pub ownerOf : List ℕ → ℕ → ℕ → ℕ
+ownerOf owners fields cell = getD owners (cell / widthOf fields) 0
 
-unfoldable pub openedState : ℕ → ℕ → List ℕ → State
-openedState tasks objects owners = record {
+-- the first n cells have their owners, and the others are blank
+unfoldable pub ownedCells : List ℕ → ℕ → ℕ → List CellRecord
+ownedCells owners fields zero = replicate maxCells (owned 0)
+ownedCells owners fields (suc n) = set (ownedCells owners fields n) n (owned (ownerOf owners fields n))
+
+unfoldable pub openedState : ℕ → ℕ → ℕ → List ℕ → State
+openedState tasks objects fields owners = record {
   tasks = tasks;
   objects = objects;
-  records = ownedRecords owners objects;
+  fields = fields;
+  cells = ownedCells owners fields (cellsOf fields objects);
   done = replicate maxTasks 0;
   seen = replicate maxTasks 0;
   took = replicate maxTasks 0;

@@ -17,7 +17,7 @@ rowOf (ReadShared share) task seen write = cond write Ten (cond (leb share seen)
 
 -- the row of an access in a state
 abbrev pub rowAt : State → ℕ → ℕ → Bool → Row
-rowAt s task object write = rowOf (localityOf s object) task (seenOf s task) write
+rowAt s task cell write = rowOf (localityOf s cell) task (seenOf s task) write
 
 -- a row's number
 abbrev pub numberOf : Row → ℕ

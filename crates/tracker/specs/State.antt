@@ -1,11 +1,12 @@
--- The recorder's state (document 01, "Tasks, objects, positions"): what is kept for each task and for each object.
+-- The recorder's state (document 01, "Tasks, objects, positions"): what is kept for each task and for each cell.
 use Prim.Native.Nat.{ℕ}
 use lib.ListN.{getD, replicate}
 use Rattle.codec.specs.declared.Position.{Position}
-use Rattle.codec.specs.Limit.{maxTasks, maxObjects}
+use Rattle.codec.specs.Cell.{cellsOf}
+use Rattle.codec.specs.Limit.{maxTasks, maxCells}
 use Rattle.tracker.specs.declared.Locality.{Locality}
 use Rattle.tracker.specs.declared.Locality.the-variants.{WriteExclusive, ReadExclusive, ReadShared}
-use Rattle.tracker.specs.declared.ObjectRecord.{ObjectRecord}
+use Rattle.tracker.specs.declared.CellRecord.{CellRecord}
 use Rattle.tracker.specs.declared.State.{State}
 
 -- Done(S): how many accesses S has made
@@ -20,21 +21,25 @@ seenOf s task = getD (s .seen) task 0
 abbrev pub tookOf : State → ℕ → ℕ
 tookOf s task = getD (s .took) task 0
 
--- an object that one task holds for writing
-abbrev pub owned : ℕ → ObjectRecord
+-- how many cells there are: N times F
+abbrev pub cellCount : State → ℕ
+cellCount s = cellsOf (s .fields) (s .objects)
+
+-- a cell that one task holds for writing
+abbrev pub owned : ℕ → CellRecord
 owned task = record { locality = WriteExclusive task }
 
--- an object's state
+-- a cell's state
 abbrev pub localityOf : State → ℕ → Locality
-localityOf s object = getD (s .records) object (owned 0) .locality
+localityOf s cell = getD (s .cells) cell (owned 0) .locality
 
--- T1 in the table: the task that holds an object alone, 0 for a shared one
+-- T1 in the table: the task that holds a cell alone, 0 for a shared one
 abbrev pub holderOf : Locality → ℕ
 holderOf (WriteExclusive task) = task
 holderOf (ReadExclusive task) = task
 holderOf (ReadShared share) = 0
 
--- c in the table: the share number of a shared object, 0 for any other
+-- c in the table: the share number of a shared cell, 0 for any other
 abbrev pub shareOf : Locality → ℕ
 shareOf (WriteExclusive task) = 0
 shareOf (ReadExclusive task) = 0
@@ -59,7 +64,8 @@ abbrev pub blankState : State
 blankState = record {
   tasks = 0;
   objects = 0;
-  records = replicate maxObjects (owned 0);
+  fields = 0;
+  cells = replicate maxCells (owned 0);
   done = replicate maxTasks 0;
   seen = replicate maxTasks 0;
   took = replicate maxTasks 0;

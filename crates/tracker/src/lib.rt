@@ -1,10 +1,10 @@
 // The recorder's state. How the transition table of document 01 changes it is defined in specs/, and proved there to make sound
 // histories; the code is in the crate above, `transitions`.
 use codec::Position;
-use codec::limit::OBJECTS;
+use codec::limit::CELLS;
 use codec::limit::TASKS;
 
-// Who holds an object: one task for writing, one for reading, or every task by a share number.
+// Who holds a cell: one task for writing, one for reading, or every task by a share number.
 // Document 01: write-held by S, read-held by S, shared c.
 pub enum Locality {
     WriteExclusive(u16),
@@ -12,17 +12,20 @@ pub enum Locality {
     ReadShared(u32),
 }
 
-// What is kept for an object. Document 01: each object's record holds its state.
-pub struct ObjectRecord {
+// What is kept for a cell. Document 01: each object's record holds its state; with fields (document 02, F-6) each field of an object has
+// its own.
+pub struct CellRecord {
     pub locality: Locality,
 }
 
-// The recorder's state. Document 01: T, N, the objects' records, Done, Seen, Took, G, Last. If Last's number is 0 there is no Last.
-// Entries from T or N on have no meaning.
+// The recorder's state. Document 01: T, N, the cells' records, Done, Seen, Took, G, Last. If Last's number is 0 there is no Last.
+// `fields` is 0 under head 1, where each object is one cell, else F under head 7 (document 02, F-6). Entries from T or N times F on have
+// no meaning.
 pub struct State {
     pub tasks: u16,
     pub objects: u16,
-    pub records: [ObjectRecord; OBJECTS],
+    pub fields: u16,
+    pub cells: [CellRecord; CELLS],
     pub done: [u16; TASKS],
     pub seen: [u32; TASKS],
     pub took: [u16; TASKS],
@@ -30,10 +33,11 @@ pub struct State {
     pub last: Position,
 }
 
-// A state without its objects' records: an access can pass this by value cheaply.
+// A state without its cells' records: an access can pass this by value cheaply.
 pub struct Counters {
     pub tasks: u16,
     pub objects: u16,
+    pub fields: u16,
     pub done: [u16; TASKS],
     pub seen: [u32; TASKS],
     pub took: [u16; TASKS],
@@ -55,7 +59,7 @@ pub enum Row {
     Ten,
 }
 
-// An access by the table: its row's number, the object and the task's entries after it, and its orderings. A missing ordering has number
+// An access by the table: its row's number, the cell and the task's entries after it, and its orderings. A missing ordering has number
 // 0. Row 10 orders after every other task and leaves these two empty.
 pub struct Plan {
     pub row: u8,

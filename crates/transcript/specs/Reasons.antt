@@ -19,7 +19,7 @@ use Rattle.transcript.specs.Told.{stopIn, afterOf}
 -- after a list of steps
 unfoldable pub whyOf : List ℕ → Run → List ℕ → List ℕ → List ℕ
 whyOf b r m steps =
-    cond (eqb (stopIn b r m steps .number) 0) (waitsOf b (afterOf b r m steps .run)) (differOf b (afterOf b r m steps .memory) (stopIn b r m steps .offset))
+    cond (eqb (stopIn b r m steps .number) 0) (waitsOf b (afterOf b r m steps .run)) (differOf (r .fields) b (afterOf b r m steps .memory) (stopIn b r m steps .offset))
 
 unfoldable pub reasonsIn : List ℕ → Reading Parsed → List ℕ
 reasonsIn b (refused c) = []

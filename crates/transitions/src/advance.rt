@@ -11,7 +11,7 @@ use tracker::Locality;
 use tracker::Plan;
 use tracker::Row;
 
-// What a row can change besides the object, as it was before the access: Seen and Took of its task, G and Last; `here` is (T2, k).
+// What a row can change besides the cell, as it was before the access: Seen and Took of its task, G and Last; `here` is (T2, k).
 struct Kept {
     here: Position,
     seen: u32,
@@ -20,7 +20,7 @@ struct Kept {
     last: Position,
 }
 
-// The task that holds an object alone, 0 for a shared one.
+// The task that holds a cell alone, 0 for a shared one.
 pub fn holder_of(locality: Locality) -> u16
     ensures { λ r. ⌜ r ≡ holderOf locality ⌝ }
 {
@@ -31,7 +31,7 @@ pub fn holder_of(locality: Locality) -> u16
     }
 }
 
-// A row that changes only the object: all except 5, 6 and 8.
+// A row that changes only the cell: all except 5, 6 and 8.
 fn plain(row: u8, locality: Locality, kept: Kept, first: Position) -> Plan
     ensures { λ r. ⌜ r ≡ plainPlan row locality kept first ⌝ }
 {
@@ -88,7 +88,7 @@ fn fence(locality: Locality, kept: Kept) -> Plan
     }
 }
 
-// Row 8: the task takes the object for reading, by this access.
+// Row 8: the task takes the cell for reading, by this access.
 fn hold(kept: Kept, first: Position) -> Plan
     ensures { λ r. ⌜ r ≡ holdPlan kept first ⌝ }
 {
@@ -130,7 +130,7 @@ fn by_row(row: Row, locality: Locality, kept: Kept, done: Position, took: Positi
     }
 }
 
-// What an access to an object in `locality` does, by the table.
+// What an access to a cell in `locality` does, by the table.
 pub fn decide(counters: Counters, locality: Locality, task: usize, write: bool) -> Plan
     requires { ⌜ Admits counters locality task ⌝ }
     ensures { λ r. ⌜ r ≡ planFor counters locality task write ⌝ }

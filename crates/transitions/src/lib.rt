@@ -3,11 +3,11 @@ ghost use mathlib.Core.Path.{_≡_};
 ghost use Rattle.tracker.specs.Laws.Counters.{countersOf};
 ghost use Rattle.tracker.specs.State.{blankState};
 use codec::Position;
-use codec::limit::OBJECTS;
+use codec::limit::CELLS;
 use codec::limit::TASKS;
+use tracker::CellRecord;
 use tracker::Counters;
 use tracker::Locality;
-use tracker::ObjectRecord;
 use tracker::State;
 
 pub mod advance;
@@ -19,12 +19,13 @@ pub fn blank() -> State
     ensures { λ r. ⌜ r ≡ blankState ⌝ }
 {
     let locality = Locality::WriteExclusive(0);
-    let record = ObjectRecord { locality };
+    let record = CellRecord { locality };
     let last = Position { task: 0, number: 0 };
     State {
         tasks: 0,
         objects: 0,
-        records: [record; OBJECTS],
+        fields: 0,
+        cells: [record; CELLS],
         done: [0u16; TASKS],
         seen: [0u32; TASKS],
         took: [0u16; TASKS],
@@ -43,6 +44,7 @@ pub fn counters_of(state: State) -> Counters
     Counters {
         tasks: state.tasks,
         objects: state.objects,
+        fields: state.fields,
         done,
         seen,
         took,

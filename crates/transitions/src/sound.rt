@@ -1,11 +1,15 @@
-// The soundness test of a recording state: everything except the objects' records in one pass over the tasks, and one record. The calls
+// The soundness test of a recording state: everything except the cells' records in one pass over the tasks, and one record. The calls
 // loop over the records themselves, because a function that takes them would be given a copy.
 ghost use mathlib.Core.Path.{_≡_};
 ghost use Prim.Native.Nat.{_≤_, min};
-ghost use Rattle.codec.specs.Limit.{maxTasks, maxObjects};
+ghost use Rattle.codec.specs.Cell.{cellsOf};
+ghost use Rattle.codec.specs.Limit.{maxTasks, maxCells};
 ghost use Rattle.tracker.specs.Laws.Scan.{countersSound};
-ghost use Rattle.tracker.specs.Sound.{lastSound, taskSound, tasksSound, objectSound};
+ghost use Rattle.tracker.specs.Sound.{lastSound, taskSound, tasksSound, cellSound};
 use codec::Position;
+use codec::cell::cells_of;
+use codec::limit::CELLS;
+use codec::limit::FIELDS;
 use codec::limit::OBJECTS;
 use codec::limit::TASKS;
 use codec::limit::least;
@@ -36,8 +40,8 @@ fn task_sound(done: u16, seen: u32, took: u16, shares: u32) -> bool
 }
 
 // A holder is a task, and a share number is 1 to G.
-pub fn object_sound(locality: Locality, tasks: u16, shares: u32) -> bool
-    ensures { λ r. ⌜ r ≡ objectSound locality tasks shares ⌝ }
+pub fn cell_sound(locality: Locality, tasks: u16, shares: u32) -> bool
+    ensures { λ r. ⌜ r ≡ cellSound locality tasks shares ⌝ }
 {
     match locality {
         Locality::WriteExclusive(holder) => holder < tasks,
@@ -70,7 +74,7 @@ fn tasks_sound(
     shares <= sum
 }
 
-// Everything except the objects: T and N, Last, each task.
+// Everything except the cells: T, N and F, Last, each task.
 pub fn counters_sound(counters: Counters) -> bool
     ensures { λ r. ⌜ r ≡ countersSound counters ⌝ }
 {
@@ -86,15 +90,18 @@ pub fn counters_sound(counters: Counters) -> bool
     if !within(1, OBJECTS, counters.objects as usize) {
         return false;
     }
+    if FIELDS < counters.fields as usize {
+        return false;
+    }
     if !last_sound(last, tasks, shares, done) {
         return false;
     }
     tasks_sound(tasks, shares, done, seen, took)
 }
 
-// The number of objects that have a record; an unsound state may name more.
-pub fn objects_in(objects: u16) -> usize
-    ensures { λ r. ⌜ r ≡ min objects maxObjects ⌝ }
+// The number of cells that have a record; an unsound state may name more.
+pub fn cells_in(objects: u16, fields: u16) -> usize
+    ensures { λ r. ⌜ r ≡ min (cellsOf fields objects) maxCells ⌝ }
 {
-    least(objects as usize, OBJECTS)
+    least(cells_of(fields as usize, objects as usize), CELLS)
 }

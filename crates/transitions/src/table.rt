@@ -5,7 +5,7 @@ ghost use Rattle.tracker.specs.Row.{rowOf};
 use tracker::Locality;
 use tracker::Row;
 
-// The row of an access by `task`, whose Seen is `seen`, to an object in `locality`.
+// The row of an access by `task`, whose Seen is `seen`, to a cell in `locality`.
 pub fn row_of(locality: Locality, task: u16, seen: u32, write: bool) -> Row
     ensures { λ r. ⌜ r ≡ rowOf locality task seen write ⌝ }
 {

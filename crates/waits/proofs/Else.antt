@@ -9,10 +9,10 @@ use Rattle.codec.specs.declared.Record.{Record}
 use Rattle.codec.specs.declared.Record.the-variants.{Head, Section, Ordering, Access, Refused}
 use Rattle.waits.specs.Differ.{onDiffer}
 
-pub not-access : (memory : List ℕ) (at : ℕ) (r : Record) → OneOf (0 ∷ 1 ∷ 2 ∷ 4 ∷ []) (tagOf the-type r) → onDiffer memory at r ≡ []
+pub not-access : (fields : ℕ) (memory : List ℕ) (at : ℕ) (r : Record) → OneOf (0 ∷ 1 ∷ 2 ∷ 4 ∷ []) (tagOf the-type r) → onDiffer fields memory at r ≡ []
 unfolding onDiffer
-not-access memory at (Head t n) h = refl
-not-access memory at (Section t n s) h = refl
-not-access memory at (Ordering p) h = refl
-not-access memory at (Access o) h = absurd (miss (0 ∷ 1 ∷ 2 ∷ 4 ∷ []) 3 tt h)
-not-access memory at (Refused n) h = refl
+not-access fields memory at (Head kind t n width) h = refl
+not-access fields memory at (Section t n s) h = refl
+not-access fields memory at (Ordering p) h = refl
+not-access fields memory at (Access o) h = absurd (miss (0 ∷ 1 ∷ 2 ∷ 4 ∷ []) 3 tt h)
+not-access fields memory at (Refused n) h = refl

@@ -2,7 +2,7 @@
 // says and what the memory holds.
 ghost use mathlib.Core.List.{_++_};
 ghost use mathlib.Core.Path.{_≡_};
-ghost use Prim.Native.Nat.{_+_, _≤_};
+ghost use Prim.Native.Nat.{_+_, _<_, _≤_};
 ghost use lib.ListN.{length, getD};
 ghost use Rattle.codec.specs.Limit.{maxTasks};
 ghost use Rattle.pending.specs.declared.Run.{Run};
@@ -11,9 +11,12 @@ ghost use Rattle.pending.specs.Laws.Sound.{Sound};
 ghost use Rattle.pending.specs.Unmet.{first};
 ghost use Rattle.text.specs.Appended.{Appended};
 ghost use Rattle.text.specs.Decimal.{fieldOf};
-ghost use Rattle.waits.specs.Differ.{differLine, differOf};
+ghost use Rattle.waits.specs.Differ.{cellWords, differLine, differOf, cellMost, differMost};
 ghost use Rattle.waits.specs.Waits.{waitLine, waitOf, waitsOf, lineMost, waitsMost};
+use codec::Op;
 use codec::Record;
+use codec::cell::op_cell;
+use codec::kind::has_field;
 use codec::limit::TASKS;
 use codec::limit::least;
 use codec::number::IN_BODY;
@@ -99,6 +102,7 @@ pub fn put_waits(bytes: &[u8], run: Run, out: &mut [u8]) -> usize
         let limits = Limits {
             tasks: run.tasks,
             objects: run.objects,
+            fields: run.fields,
             own: t,
         };
         at = put_wait(out, at, x, bytes, limits, &dones);
@@ -106,37 +110,49 @@ pub fn put_waits(bytes: &[u8], run: Run, out: &mut [u8]) -> usize
     at
 }
 
-// The value of an object, 0 past the memory's end.
-fn held(memory: &[u32], object: usize) -> u32
-    ensures { λ r. ⌜ r ≡ getD (now (memory .entry)) object 0 ⌝ }
+// The value of a cell, 0 past the memory's end.
+fn held(memory: &[u32], cell: usize) -> u32
+    ensures { λ r. ⌜ r ≡ getD (now (memory .entry)) cell 0 ⌝ }
 {
-    if object < memory.len() {
-        return memory[object];
+    if cell < memory.len() {
+        return memory[cell];
     }
     0
 }
 
-// The record's offset, its value, its object, and what the memory holds there.
-fn put_held(out: &mut [u8], at: usize, value: u32, object: u16, held: u32) -> usize
-    requires { ⌜ lineMost ≤ length (now out) ⌝ }
-    ensures { λ r. ⌜ Appended (differLine at value object held) (now (out .entry)) 0 (now (out .exit)) r ⌝ }
+// The object of a record, or the field of the object if the record names one.
+fn put_cell(out: &mut [u8], at: usize, op: Op) -> usize
+    requires { ⌜ at + cellMost ≤ length (now out) ⌝ }
+    ensures { λ r. ⌜ Appended (cellWords op) (now (out .entry)) at (now (out .exit)) r ⌝ }
+    ensures { λ r. ⌜ r ≤ at + cellMost ⌝ }
+{
+    if has_field(op.kind) {
+        let end = put_part(out, at, b" but field ", op.field as u64, b' ');
+        return put_part(out, end, b"of object ", op.object as u64, b' ');
+    }
+    put_part(out, at, b" but object ", op.object as u64, b' ')
+}
+
+// The record's offset, its value, its object and field, and what the memory holds there.
+fn put_held(out: &mut [u8], at: usize, op: Op, held: u32) -> usize
+    requires { ⌜ differMost ≤ length (now out) ⌝ }
+    ensures { λ r. ⌜ Appended (differLine at op held) (now (out .entry)) 0 (now (out .exit)) r ⌝ }
 {
     let a = put_part(out, 0, b"the read at byte ", at as u64, b' ');
-    let b = put_part(out, a, b"got ", value as u64, b',');
-    let c = put_part(out, b, b" but object ", object as u64, b' ');
+    let b = put_part(out, a, b"got ", op.value as u64, b',');
+    let c = put_cell(out, b, op);
     put_part(out, c, b"holds ", held as u64, b'\n')
 }
 
 // What the record at an offset says that its read got, and what the memory holds, from the start of the output. Returns the length.
-pub fn put_differ(bytes: &[u8], memory: &[u32], at: usize, out: &mut [u8]) -> usize
-    requires { ⌜ lineMost ≤ length (now out) ⌝ }
-    ensures { λ r. ⌜ Appended (differOf (now (bytes .entry)) (now (memory .entry)) at) (now (out .entry)) 0 (now (out .exit)) r ⌝ }
+pub fn put_differ(bytes: &[u8], fields: usize, memory: &[u32], at: usize, out: &mut [u8]) -> usize
+    requires { ⌜ (fields < 65536) × (differMost ≤ length (now out)) ⌝ }
+    ensures { λ r. ⌜ Appended (differOf fields (now (bytes .entry)) (now (memory .entry)) at) (now (out .entry)) 0 (now (out .exit)) r ⌝ }
 {
     let from = least(at, bytes.len());
     let r = record(&bytes[from..], IN_BODY);
     let Record::Access(op) = r else {
         return 0;
     };
-    let object = op.object;
-    put_held(out, at, op.value, object, held(memory, object as usize))
+    put_held(out, at, op, held(memory, op_cell(fields, op)))
 }

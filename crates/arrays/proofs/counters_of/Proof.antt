@@ -9,7 +9,7 @@ use Rattle.arrays.proofs.counters_of.Statement.{statement}
 use Rattle.arrays.proofs.counters_of.Tie as tie
 
 abbrev Inv-loop : tie.InvT-loop
-Inv-loop halves words done₀ seen₀ took₀ t₀ done seen took t = Filled (λ k. getD halves (4 + k) 0) maxTasks done t × Filled (λ k. getD words (1 + k) 0) maxTasks seen t × Filled (λ k. getD halves (20 + k) 0) maxTasks took t
+Inv-loop halves words done₀ seen₀ took₀ t₀ done seen took t = Filled (λ k. getD halves (5 + k) 0) maxTasks done t × Filled (λ k. getD words (1 + k) 0) maxTasks seen t × Filled (λ k. getD halves (21 + k) 0) maxTasks took t
 
 abbrev μ-loop : tie.MeasureT-loop
 μ-loop halves words done₀ seen₀ took₀ t₀ done seen took t = maxTasks - t
@@ -85,13 +85,16 @@ element-copy-out-t28-2 c = search needs
 element-copy-out-t31-2 : tie.Need-element-copy-out-t31-2 Inv-loop μ-loop
 element-copy-out-t31-2 c = search needs
 
-element-copy-out-t41 : tie.Need-element-copy-out-t41 Inv-loop μ-loop
-element-copy-out-t41 c = search needs
+element-copy-out-t38 : tie.Need-element-copy-out-t38 Inv-loop μ-loop
+element-copy-out-t38 c = search needs
+
+element-copy-out-t44 : tie.Need-element-copy-out-t44 Inv-loop μ-loop
+element-copy-out-t44 c = search needs
 
 returns : tie.Need-returns Inv-loop μ-loop
 returns c =
-    let l = c .before .before .before .before .before .before .loop in
-    let h = c .before .before .before .before .before .loop-test .left in
+    let l = c .before .before .before .before .before .before .before .loop in
+    let h = c .before .before .before .before .before .before .loop-test .left in
     rw (filled-all _ maxTasks _ _ h (l .inv .0), filled-all _ maxTasks _ _ h (l .inv .1), filled-all _ maxTasks _ _ h (l .inv .2))
 
 pub counters-of-spec : {M : Type 1} → statement M
@@ -123,5 +126,6 @@ counters-of-spec =
     element-copy-out-t31
     element-copy-out-t28-2
     element-copy-out-t31-2
-    element-copy-out-t41
+    element-copy-out-t38
+    element-copy-out-t44
     returns)

@@ -1,7 +1,7 @@
 use mathlib.Core.Path.{_≡_}
 use native.Mathlib.Omega.{arith}
 use Rattle.codec.specs.Store.{store}
-use Rattle.codec.specs.Limit.{maxObjects}
+use Rattle.codec.specs.Limit.{maxCells}
 use Rattle.tracker.specs.State.{holderOf}
 use Rattle.arrays.specs.Halves.{caseOf, localityAt, sharesOf}
 use Rattle.arrays.specs.Laws.HalvesCode.{two, two-none, two-more, one-none}
@@ -13,11 +13,11 @@ use Rattle.arrays.proofs.put_records.Tie as tie
 
 abbrev Inv-loop : tie.InvT-loop
 Inv-loop halves₀ words₀ records i₀ halves words i =
-    (i ≤ maxObjects) × (halves ≡ two halves₀ 36 292 (λ k. caseOf (localityAt records k)) (λ k. holderOf (localityAt records k)) i) × (words ≡ store words₀ 17 (sharesOf records i))
+    (i ≤ maxCells) × (halves ≡ two halves₀ 37 2085 (λ k. caseOf (localityAt records k)) (λ k. holderOf (localityAt records k)) i) × (words ≡ store words₀ 17 (sharesOf records i))
 
 abbrev μ-loop : tie.MeasureT-loop
 μ-loop halves₀ words₀ records i₀ halves words i =
-    maxObjects - i
+    maxCells - i
 
 loop-holds : tie.Need-loop-holds Inv-loop μ-loop
 loop-holds c = (omega arith, two-none _ _ _ _ _, one-none _ _ _)
@@ -74,12 +74,12 @@ loop-again : tie.Need-loop-again Inv-loop μ-loop
 loop-again c =
     let l = c .before .before .before .before .before .loop in (
       omega arith,
-      rw (c .before .before .case-of .ensures, c .before .holder-of .ensures, l .inv .1) (two-more _ 36 292 (l .i) _ _ (omega arith)),
+      rw (c .before .before .case-of .ensures, c .before .holder-of .ensures, l .inv .1) (two-more _ 37 2085 (l .i) _ _ (omega arith)),
       rw (c .share-of .ensures, l .inv .2) (store-more _ 17 (l .i) _),
     )
 
 returns : tie.Need-returns Inv-loop μ-loop
-returns c = let l = c .before .loop in let e : l .i ≡ maxObjects = omega arith in (rw e at (l .inv .1), rw e at (l .inv .2))
+returns c = let l = c .before .loop in let e : l .i ≡ maxCells = omega arith in (rw e at (l .inv .1), rw e at (l .inv .2))
 
 pub put-records-spec : {M : Type 1} → statement M
 put-records-spec =

@@ -1,27 +1,28 @@
-use mathlib.Core.Path.{_≡_, _∙_}
-use Prim.Native.Nat.{_≤_, _-_}
-use native.Mathlib.Omega.{arith}
-use Rattle.codec.specs.Store.{store}
-use Rattle.codec.specs.Limit.{maxTasks}
-use Rattle.arrays.specs.Places.{firstPlaces}
 use Rattle.arrays.specs.Laws.PlacesCode.{places-none, places-more, places-all}
+use Rattle.arrays.specs.Places.{firstPlaces}
+use Rattle.codec.specs.Limit.{maxTasks}
+use Rattle.codec.specs.Store.{store}
+use native.Mathlib.Omega.{arith}
+use Prim.Native.Nat.{_≤_, _-_}
+use mathlib.Core.Path.{_≡_, _∙_}
 use borrow.Author.Needs.{needs}
 use Rattle.arrays.proofs.put_run.Statement.{statement}
 use Rattle.arrays.proofs.put_run.Tie as tie
 
 abbrev Inv-loop : tie.InvT-loop
-Inv-loop places₀ run t₀ places t =
-    (t ≤ maxTasks) × (places ≡ store places₀ 2 (firstPlaces (run .runs) t))
+Inv-loop places₀ run t₀ places t = (t ≤ maxTasks) × (places ≡ store places₀ 3 (firstPlaces (run .runs) t))
 
 abbrev μ-loop : tie.MeasureT-loop
-μ-loop places₀ run t₀ places t =
-    maxTasks - t
+μ-loop places₀ run t₀ places t = maxTasks - t
 
 element-write-places : tie.Need-element-write-places Inv-loop μ-loop
 element-write-places c = search needs
 
 element-write-places-2 : tie.Need-element-write-places-2 Inv-loop μ-loop
 element-write-places-2 c = search needs
+
+element-write-places-3 : tie.Need-element-write-places-3 Inv-loop μ-loop
+element-write-places-3 c = search needs
 
 loop-holds : tie.Need-loop-holds Inv-loop μ-loop
 loop-holds c = (omega arith, places-none _ _)
@@ -41,8 +42,8 @@ add-places c = search needs
 mul-places-2 : tie.Need-mul-places-2 Inv-loop μ-loop
 mul-places-2 c = search needs
 
-element-write-places-3 : tie.Need-element-write-places-3 Inv-loop μ-loop
-element-write-places-3 c = search needs
+element-write-places-4 : tie.Need-element-write-places-4 Inv-loop μ-loop
+element-write-places-4 c = search needs
 
 mul-places-3 : tie.Need-mul-places-3 Inv-loop μ-loop
 mul-places-3 c = search needs
@@ -53,8 +54,8 @@ add-places-2 c = search needs
 mul-places-4 : tie.Need-mul-places-4 Inv-loop μ-loop
 mul-places-4 c = search needs
 
-element-write-places-4 : tie.Need-element-write-places-4 Inv-loop μ-loop
-element-write-places-4 c = search needs
+element-write-places-5 : tie.Need-element-write-places-5 Inv-loop μ-loop
+element-write-places-5 c = search needs
 
 mul-places-5 : tie.Need-mul-places-5 Inv-loop μ-loop
 mul-places-5 c = search needs
@@ -65,8 +66,8 @@ add-places-3 c = search needs
 mul-places-6 : tie.Need-mul-places-6 Inv-loop μ-loop
 mul-places-6 c = search needs
 
-element-write-places-5 : tie.Need-element-write-places-5 Inv-loop μ-loop
-element-write-places-5 c = search needs
+element-write-places-6 : tie.Need-element-write-places-6 Inv-loop μ-loop
+element-write-places-6 c = search needs
 
 mul-places-7 : tie.Need-mul-places-7 Inv-loop μ-loop
 mul-places-7 c = search needs
@@ -77,8 +78,8 @@ add-places-4 c = search needs
 mul-places-8 : tie.Need-mul-places-8 Inv-loop μ-loop
 mul-places-8 c = search needs
 
-element-write-places-6 : tie.Need-element-write-places-6 Inv-loop μ-loop
-element-write-places-6 c = search needs
+element-write-places-7 : tie.Need-element-write-places-7 Inv-loop μ-loop
+element-write-places-7 c = search needs
 
 add-t : tie.Need-add-t Inv-loop μ-loop
 add-t c = search needs
@@ -100,25 +101,26 @@ put-run-spec =
     μ-loop
     element-write-places
     element-write-places-2
+    element-write-places-3
     loop-holds
     mul-x
     element-copy-out-x
     mul-places
     add-places
     mul-places-2
-    element-write-places-3
+    element-write-places-4
     mul-places-3
     add-places-2
     mul-places-4
-    element-write-places-4
+    element-write-places-5
     mul-places-5
     add-places-3
     mul-places-6
-    element-write-places-5
+    element-write-places-6
     mul-places-7
     add-places-4
     mul-places-8
-    element-write-places-6
+    element-write-places-7
     add-t
     loop-less
     loop-again

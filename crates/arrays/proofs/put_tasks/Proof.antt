@@ -13,7 +13,7 @@ use Rattle.arrays.proofs.put_tasks.Tie as tie
 
 abbrev Inv-loop : tie.InvT-loop
 Inv-loop halves₀ words₀ done seen took t₀ halves words t =
-    (t ≤ maxTasks) × (halves ≡ two halves₀ 4 20 (λ k. getD done k 0) (λ k. getD took k 0) t) × (words ≡ store words₀ 1 (firstOf seen t))
+    (t ≤ maxTasks) × (halves ≡ two halves₀ 5 21 (λ k. getD done k 0) (λ k. getD took k 0) t) × (words ≡ store words₀ 1 (firstOf seen t))
 
 abbrev μ-loop : tie.MeasureT-loop
 μ-loop halves₀ words₀ done seen took t₀ halves words t =
@@ -76,7 +76,7 @@ loop-less c = search needs
 loop-again : tie.Need-loop-again Inv-loop μ-loop
 loop-again c =
     let l = c .before .loop in
-    (omega arith, rw (l .inv .1) (two-more _ 4 20 (l .t) _ _ (omega arith)), rw (l .inv .2) (store-more _ 1 (l .t) _))
+    (omega arith, rw (l .inv .1) (two-more _ 5 21 (l .t) _ _ (omega arith)), rw (l .inv .2) (store-more _ 1 (l .t) _))
 
 returns : tie.Need-returns Inv-loop μ-loop
 returns c = let l = c .before .loop in let e : l .t ≡ maxTasks = omega arith in (rw e at (l .inv .1), rw e at (l .inv .2))

@@ -1,7 +1,7 @@
 use mathlib.Core.Path.{refl}
 use Prim.Native.Nat.{_-_}
 use native.Mathlib.Omega.{arith}
-use Rattle.codec.specs.Limit.{maxObjects}
+use Rattle.codec.specs.Limit.{maxCells}
 use Rattle.pending.specs.Laws.Each.{Filled, filled-none, filled-more, filled-all}
 use Rattle.arrays.specs.Halves.{recordIn}
 use borrow.Author.Needs.{needs}
@@ -9,10 +9,10 @@ use Rattle.arrays.proofs.records_of.Statement.{statement}
 use Rattle.arrays.proofs.records_of.Tie as tie
 
 abbrev Inv-loop : tie.InvT-loop
-Inv-loop halves words records₀ i₀ records i = Filled (recordIn halves words) maxObjects records i
+Inv-loop halves words records₀ i₀ records i = Filled (recordIn halves words) maxCells records i
 
 abbrev μ-loop : tie.MeasureT-loop
-μ-loop halves words records₀ i₀ records i = maxObjects - i
+μ-loop halves words records₀ i₀ records i = maxCells - i
 
 record-of-requires : tie.Need-record-of-requires Inv-loop μ-loop
 record-of-requires c κs = search needs
@@ -66,10 +66,10 @@ loop-again : tie.Need-loop-again Inv-loop μ-loop
 loop-again c =
     let a = c .before .before .before .before .before .before .before .args in
     let l = c .before .before .before .before .before .loop in
-    rw (c .record-of2 .ensures) (filled-more (recordIn (a .halves .now) (a .words .now)) maxObjects (l .records) (l .i) (omega arith) (l .inv))
+    rw (c .record-of2 .ensures) (filled-more (recordIn (a .halves .now) (a .words .now)) maxCells (l .records) (l .i) (omega arith) (l .inv))
 
 returns : tie.Need-returns Inv-loop μ-loop
-returns c = filled-all _ maxObjects _ _ (c .loop-test .left) (c .before .loop .inv)
+returns c = filled-all _ maxCells _ _ (c .loop-test .left) (c .before .loop .inv)
 
 pub records-of-spec : {M : Type 1} → statement M
 records-of-spec =

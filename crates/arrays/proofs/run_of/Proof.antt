@@ -1,9 +1,9 @@
-use mathlib.Core.Path.{refl}
-use Prim.Native.Nat.{_-_}
-use native.Mathlib.Omega.{arith}
-use Rattle.codec.specs.Limit.{maxTasks}
-use Rattle.pending.specs.Laws.Each.{Filled, filled-none, filled-more, filled-all}
 use Rattle.arrays.specs.Places.{taskIn}
+use Rattle.pending.specs.Laws.Each.{Filled, filled-none, filled-more, filled-all}
+use Rattle.codec.specs.Limit.{maxTasks}
+use native.Mathlib.Omega.{arith}
+use Prim.Native.Nat.{_-_}
+use mathlib.Core.Path.{refl}
 use borrow.Author.Needs.{needs}
 use Rattle.arrays.proofs.run_of.Statement.{statement}
 use Rattle.arrays.proofs.run_of.Tie as tie
@@ -86,8 +86,11 @@ element-copy-out-t35 c = search needs
 element-copy-out-t38 : tie.Need-element-copy-out-t38 Inv-loop μ-loop
 element-copy-out-t38 c = search needs
 
+element-copy-out-t41 : tie.Need-element-copy-out-t41 Inv-loop μ-loop
+element-copy-out-t41 c = search needs
+
 returns : tie.Need-returns Inv-loop μ-loop
-returns c = rw (filled-all _ maxTasks _ _ (c .before .before .loop-test .left) (c .before .before .before .loop .inv))
+returns c = rw (filled-all _ maxTasks _ _ (c .before .before .before .loop-test .left) (c .before .before .before .before .loop .inv))
 
 pub run-of-spec : {M : Type 1} → statement M
 run-of-spec =
@@ -119,4 +122,5 @@ run-of-spec =
     loop-again
     element-copy-out-t35
     element-copy-out-t38
+    element-copy-out-t41
     returns)

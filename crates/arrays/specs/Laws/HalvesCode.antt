@@ -7,7 +7,7 @@ use borrow.Author.Tests.{eq-eqb, ne-eqb}
 use lib.ListN.{length, set, length-append}
 use Rattle.codec.specs.Store.{store}
 use Rattle.codec.specs.Laws.Store.{store-behind}
-use Rattle.codec.specs.Limit.{maxTasks, maxObjects}
+use Rattle.codec.specs.Limit.{maxTasks, maxCells}
 use Rattle.pending.specs.Each.{each}
 use Rattle.arrays.specs.Halves.{movedTo}
 use Rattle.arrays.specs.Laws.Stores.{store-set, store-swap, store-more}
@@ -28,26 +28,26 @@ pub one-none : (l : List ℕ) (at : ℕ) (f : ℕ → ℕ) → l ≡ store l at 
 unfolding store each
 one-none l at f = refl
 
-module _ (l done took cases holders : List ℕ) (d : length done ≡ maxTasks) (t : length took ≡ maxTasks) (c : length cases ≡ maxObjects) where
-  -- storing the objects' parts and then the tasks' gives one stored part
-  parts : store (store (store (store l 36 cases) 292 holders) 4 done) 20 took ≡ store l 4 (done ++ (took ++ (cases ++ holders)))
+module _ (l done took cases holders : List ℕ) (d : length done ≡ maxTasks) (t : length took ≡ maxTasks) (c : length cases ≡ maxCells) where
+  -- storing the cells' parts and then the tasks' gives one stored part
+  parts : store (store (store (store l 37 cases) 2085 holders) 5 done) 21 took ≡ store l 5 (done ++ (took ++ (cases ++ holders)))
   parts =
       let n : length (done ++ took) ≡ 32 = rw length-append (omega arith) in
       rw (
-        store-behind l 36 maxObjects cases holders c,
-        store-behind _ 4 maxTasks done took d,
-        store-swap l 4 36 (done ++ took) (cases ++ holders) (omega arith),
-        store-behind l 4 32 (done ++ took) (cases ++ holders) n,
+        store-behind l 37 maxCells cases holders c,
+        store-behind _ 5 maxTasks done took d,
+        store-swap l 5 37 (done ++ took) (cases ++ holders) (omega arith),
+        store-behind l 5 32 (done ++ took) (cases ++ holders) n,
         append-assoc,
       )
 
-  pub halves-all : (v₀ v₁ v₂ v₃ : ℕ) →
-      set (set (set (set (store (store (store (store l 36 cases) 292 holders) 4 done) 20 took) 0 v₀) 1 v₁) 2 v₂) 3 v₃
-      ≡ store l 0 (v₀ ∷ v₁ ∷ v₂ ∷ v₃ ∷ (done ++ (took ++ (cases ++ holders))))
+  pub halves-all : (v₀ v₁ v₂ v₃ v₄ : ℕ) →
+      set (set (set (set (set (store (store (store (store l 37 cases) 2085 holders) 5 done) 21 took) 0 v₀) 1 v₁) 2 v₂) 3 v₃) 4 v₄
+      ≡ store l 0 (v₀ ∷ v₁ ∷ v₂ ∷ v₃ ∷ v₄ ∷ (done ++ (took ++ (cases ++ holders))))
   unfolding store
-  halves-all v₀ v₁ v₂ v₃ =
+  halves-all v₀ v₁ v₂ v₃ v₄ =
       let x = done ++ (took ++ (cases ++ holders)) in
-      rw (parts, store-set l 0 4 v₀ x (omega arith), store-set _ 1 4 v₁ x (omega arith), store-set _ 2 4 v₂ x (omega arith), store-set _ 3 4 v₃ x (omega arith))
+      rw (parts, store-set l 0 5 v₀ x (omega arith), store-set _ 1 5 v₁ x (omega arith), store-set _ 2 5 v₂ x (omega arith), store-set _ 3 5 v₃ x (omega arith), store-set _ 4 5 v₄ x (omega arith))
 
 pub words-all : (l seen shares : List ℕ) (v : ℕ) → length seen ≡ maxTasks →
     set (store (store l 17 shares) 1 seen) 0 v ≡ store l 0 (v ∷ (seen ++ shares))

@@ -28,19 +28,19 @@ places-at runs (suc n) t k h l = elim (ℕ-discrete t n) [
 ]
 
 module _ (r : Run) where
-  place-at : (t k i : ℕ) → t < maxTasks → k < 4 → i ≡ 2 + (4 * t + k) → getD (placesOf r) i 0 ≡ getD (taskPlaces (taskAt (r .runs) t)) k 0
-  place-at t k i h l e = rw e (getD-append-add (r .tasks ∷ r .objects ∷ []) (firstPlaces (r .runs) maxTasks) (4 * t + k) 0 ∙ places-at (r .runs) maxTasks t k h l)
+  place-at : (t k i : ℕ) → t < maxTasks → k < 4 → i ≡ 3 + (4 * t + k) → getD (placesOf r) i 0 ≡ getD (taskPlaces (taskAt (r .runs) t)) k 0
+  place-at t k i h l e = rw e (getD-append-add (r .tasks ∷ r .objects ∷ r .fields ∷ []) (firstPlaces (r .runs) maxTasks) (4 * t + k) 0 ∙ places-at (r .runs) maxTasks t k h l)
 
   task-back : (t : ℕ) → t < maxTasks → taskIn (placesOf r) t ≡ taskAt (r .runs) t
   task-back t h =
       rw (
-        place-at t 0 (2 + 4 * t) h (omega arith) (omega arith),
-        place-at t 1 (3 + 4 * t) h (omega arith) (omega arith),
-        place-at t 2 (4 + 4 * t) h (omega arith) (omega arith),
-        place-at t 3 (5 + 4 * t) h (omega arith) (omega arith),
+        place-at t 0 (3 + 4 * t) h (omega arith) (omega arith),
+        place-at t 1 (4 + 4 * t) h (omega arith) (omega arith),
+        place-at t 2 (5 + 4 * t) h (omega arith) (omega arith),
+        place-at t 3 (6 + 4 * t) h (omega arith) (omega arith),
       )
 
-  pub run-back : (places : List ℕ) → length places ≡ 66 → Shaped r → runIn (store places 0 (placesOf r)) ≡ r
+  pub run-back : (places : List ℕ) → length places ≡ 67 → Shaped r → runIn (store places 0 (placesOf r)) ≡ r
   run-back places h s =
       let n : length places ≡ length (placesOf r) = omega (arith, places-length (r .runs) maxTasks) in
       rw (store-whole places (placesOf r) n, each-of (taskIn (placesOf r)) maxTasks (r .runs) blankTask s task-back)

@@ -18,20 +18,20 @@ unfolding firstPlaces
 places-length runs zero = refl
 places-length runs (suc n) = rw (length-append, places-length runs n) (omega arith)
 
-pub places-none : (runs : List TaskRun) (l : List ℕ) → l ≡ store l 2 (firstPlaces runs 0)
+pub places-none : (runs : List TaskRun) (l : List ℕ) → l ≡ store l 3 (firstPlaces runs 0)
 unfolding store firstPlaces
 places-none runs l = refl
 
 pub places-more : (runs : List TaskRun) (l : List ℕ) (t : ℕ) →
-    set (set (set (set (store l 2 (firstPlaces runs t)) (2 + 4 * t) (taskAt runs t .place)) (3 + 4 * t) (taskAt runs t .end)) (4 + 4 * t) (taskAt runs t .done)) (5 + 4 * t)
-    (taskAt runs t .count) ≡ store l 2 (firstPlaces runs (t + 1))
+    set (set (set (set (store l 3 (firstPlaces runs t)) (3 + 4 * t) (taskAt runs t .place)) (4 + 4 * t) (taskAt runs t .end)) (5 + 4 * t) (taskAt runs t .done)) (6 + 4 * t)
+    (taskAt runs t .count) ≡ store l 3 (firstPlaces runs (t + 1))
 unfolding store firstPlaces
 places-more runs l t =
-    let i₃ : 3 + 4 * t ≡ suc (2 + 4 * t) = omega arith in
-    let i₄ : 4 + 4 * t ≡ suc (suc (2 + 4 * t)) = omega arith in
-    let i₅ : 5 + 4 * t ≡ suc (suc (suc (2 + 4 * t))) = omega arith in
-    rw (i₅, i₄, i₃, add-one) (store-behind l 2 (4 * t) (firstPlaces runs t) (taskPlaces (taskAt runs t)) (places-length runs t))
+    let i₃ : 4 + 4 * t ≡ suc (3 + 4 * t) = omega arith in
+    let i₄ : 5 + 4 * t ≡ suc (suc (3 + 4 * t)) = omega arith in
+    let i₅ : 6 + 4 * t ≡ suc (suc (suc (3 + 4 * t))) = omega arith in
+    rw (i₅, i₄, i₃, add-one) (store-behind l 3 (4 * t) (firstPlaces runs t) (taskPlaces (taskAt runs t)) (places-length runs t))
 
-pub places-all : (r : Run) (l : List ℕ) → store (set (set l 0 (r .tasks)) 1 (r .objects)) 2 (firstPlaces (r .runs) maxTasks) ≡ store l 0 (placesOf r)
+pub places-all : (r : Run) (l : List ℕ) → store (set (set (set l 0 (r .tasks)) 1 (r .objects)) 2 (r .fields)) 3 (firstPlaces (r .runs) maxTasks) ≡ store l 0 (placesOf r)
 unfolding store
 places-all r l = refl

@@ -6,5 +6,5 @@ use lib.ListN.{length, take}
 
 pub record Named (name : List ℕ) (size : ℕ) (bytes : List ℕ) : Type 0 where
   pub front : take size bytes ≡ name
-  pub low : size ≤ 21
-  pub long : length bytes ≡ 21
+  pub low : size ≤ 43
+  pub long : length bytes ≡ 43

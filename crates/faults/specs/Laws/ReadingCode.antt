@@ -2,16 +2,19 @@
 use mathlib.Core.Path.{_≡_, ap}
 use mathlib.Core.Bool.{true, false}
 use mathlib.Core.List.{List, [], _∷_}
-use Prim.Native.Nat.{ℕ, _-_, _≤_}
+use Prim.Native.Nat.{ℕ, _-_, _≤_, _<_}
 use native.Mathlib.Omega.{arith}
 use borrow.Author.Tests.{eq-eqb, ne-eqb}
 use lib.ListN.{length, take, drop}
 use Rattle.lines.specs.Fields.{fieldsOf}
+use Rattle.lines.specs.declared.rows.Sizes.{Sizes}
+use Rattle.lines.specs.Laws.Rows.{sizes-low}
 use Rattle.lines.specs.Lines.{Line}
-use Rattle.lines.specs.Rows.{sizesOf}
+use Rattle.lines.specs.Number.{none}
+use Rattle.lines.specs.Rows.{noSizes, sizesOf}
 use Rattle.faults.specs.declared.kind.Kind.{Kind}
 use Rattle.faults.specs.Kind.{kindAfter}
-use Rattle.faults.specs.Reading.{Reading, readingIn, Stands, objectsIn}
+use Rattle.faults.specs.Reading.{Reading, readingIn, Stands, sizesIn}
 
 module _ (line : ℕ) (k : Kind) (l : Line) (ls : List Line) where
   pub reading-here : l .number ≡ line → readingIn line k (l ∷ ls) ≡ record { kind = k; there = true; bytes = l .bytes }
@@ -47,11 +50,16 @@ stands-none line d text k at n h j =
       within = j;
     }
 
--- N as the first line gives it
-pub objects-none : (ls : List Line) → ls ≡ [] → 0 ≡ objectsIn ls
-unfolding objectsIn
-objects-none ls h = rw h
+-- T, N and F as the first line gives them
+pub sizes-none : (ls : List Line) → ls ≡ [] → noSizes ≡ sizesIn ls
+unfolding sizesIn
+sizes-none ls h = rw h
 
-pub objects-some : (n : ℕ) (ls rest : List Line) (l : Line) → n ≡ sizesOf (fieldsOf (l .bytes)) .objects → ls ≡ l ∷ rest → n ≡ objectsIn ls
-unfolding objectsIn
-objects-some n ls rest l e h = rw h e
+pub sizes-some : (z : Sizes) (ls rest : List Line) (l : Line) → z ≡ sizesOf (fieldsOf (l .bytes)) → ls ≡ l ∷ rest → z ≡ sizesIn ls
+unfolding sizesIn
+sizes-some z ls rest l e h = rw h e
+
+pub sizes-small : (ls : List Line) → (sizesIn ls .objects < none) × (sizesIn ls .fields < none)
+unfolding sizesIn
+sizes-small [] = (omega arith, omega arith)
+sizes-small (l ∷ ls) = sizes-low (fieldsOf (l .bytes))

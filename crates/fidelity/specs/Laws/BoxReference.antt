@@ -6,29 +6,29 @@ use Prim.Native.Nat.{ℕ}
 use lib.ListN.{getD, set}
 use Rattle.recorder.specs.AccessOf.{isWrite, valueAfter, memoryAfter}
 use Rattle.recorder.specs.WholeRun.{AccessCall, Call, Box, outcome, called, calledAll}
-use Rattle.fidelity.specs.Box.{Opening, openedBy, Asked, callsOf, firstBox, lastBox, fedBy, fedFrom, fed, given, kept, referenceMemory, referenceValues, answersFrom}
+use Rattle.fidelity.specs.Box.{Opening, openedBy, Asked, callsOf, firstBox, lastBox, fedBy, fedFrom, fed, given, kept, referenceMemory, referenceValues, answersFrom, cellBy}
 use Rattle.fidelity.specs.Laws.FirstBox.{opening-is}
 use Rattle.fidelity.specs.Laws.OneCall.{takenTurn, turnedAway, turn}
 
-value-same : (write : Bool) (object value : ℕ) (memory : List ℕ) → valueAfter write object value memory ≡ cond write value (getD memory object 0)
-value-same true object value memory = refl
-value-same false object value memory = refl
+value-same : (write : Bool) (cell value : ℕ) (memory : List ℕ) → valueAfter write cell value memory ≡ cond write value (getD memory cell 0)
+value-same true cell value memory = refl
+value-same false cell value memory = refl
 
-memory-same : (write : Bool) (object value : ℕ) (memory : List ℕ) → memoryAfter write object value memory ≡ cond write (set memory object value) memory
-memory-same true object value memory = refl
-memory-same false object value memory = refl
+memory-same : (write : Bool) (cell value : ℕ) (memory : List ℕ) → memoryAfter write cell value memory ≡ cond write (set memory cell value) memory
+memory-same true cell value memory = refl
+memory-same false cell value memory = refl
 
 -- one access
 module _ (b : Box) (c : AccessCall) where
   answer-given : outcome b c .answer .value ≡ given (b .memory) (fedBy b c)
   answer-given = elim (turn b c) [
-    | takenTurn k a x e s ↦ rw (a, x) (value-same (isWrite (c .sort)) (c .object) (c .value) (b .memory))
+    | takenTurn k a x e s ↦ rw (a, x) (value-same (isWrite (c .sort)) (cellBy b c) (c .value) (b .memory))
     | turnedAway a x s ↦ rw (a, x)
   ]
 
   memory-kept : called b c .memory ≡ kept (b .memory) (fedBy b c)
   memory-kept = elim (turn b c) [
-    | takenTurn k a x e s ↦ rw (a, s) (memory-same (isWrite (c .sort)) (c .object) (c .value) (b .memory))
+    | takenTurn k a x e s ↦ rw (a, s) (memory-same (isWrite (c .sort)) (cellBy b c) (c .value) (b .memory))
     | turnedAway a x s ↦ rw (a, s)
   ]
 

@@ -27,31 +27,31 @@ body-more [] e = omega arith
 body-more (x ∷ es) e = omega (arith, body-more es e)
 
 -- it changes no body of a later task
-bodies-after : (e : Entry) (h : History) (t k : ℕ) → e .task < t → bodiesFrom (e ∷ h) t k ≡ bodiesFrom h t k
+bodies-after : (fields : ℕ) (e : Entry) (h : History) (t k : ℕ) → e .task < t → bodiesFrom fields (e ∷ h) t k ≡ bodiesFrom fields h t k
 unfolding bodiesFrom filedOf
-bodies-after e h t zero l = refl
-bodies-after e h t (suc k) l = rw (ne-eqb (e .task) t (λ q. omega arith), bodies-after e h (suc t) k (omega arith))
+bodies-after fields e h t zero l = refl
+bodies-after fields e h t (suc k) l = rw (ne-eqb (e .task) t (λ q. omega arith), bodies-after fields e h (suc t) k (omega arith))
 
 -- so its records are counted once
-sections-more : (e : Entry) (h : History) (t k : ℕ) → t ≤ e .task → e .task < t + k
-    → sectionsRecords (bodiesFrom (e ∷ h) t k) ≡ sectionsRecords (bodiesFrom h t k) + length (e .orderings) + 1
+sections-more : (fields : ℕ) (e : Entry) (h : History) (t k : ℕ) → t ≤ e .task → e .task < t + k
+    → sectionsRecords (bodiesFrom fields (e ∷ h) t k) ≡ sectionsRecords (bodiesFrom fields h t k) + length (e .orderings) + 1
 unfolding sectionsRecords bodiesFrom filedOf
-sections-more e h t zero l m = absurd (omega arith)
-sections-more e h t (suc k) l m = elim (ℕ-discrete (e .task) t) [
-  | yes p ↦ rw (eq-eqb (e .task) t p, bodies-after e h (suc t) k (omega arith), body-more) (omega arith)
-  | no p ↦ rw (ne-eqb (e .task) t p) (omega (arith, sections-more e h (suc t) k (omega arith) (omega arith)))
+sections-more fields e h t zero l m = absurd (omega arith)
+sections-more fields e h t (suc k) l m = elim (ℕ-discrete (e .task) t) [
+  | yes p ↦ rw (eq-eqb (e .task) t p, bodies-after fields e h (suc t) k (omega arith), body-more) (omega arith)
+  | no p ↦ rw (ne-eqb (e .task) t p) (omega (arith, sections-more fields e h (suc t) k (omega arith) (omega arith)))
 ]
 
-sections-none : (t k : ℕ) → sectionsRecords (bodiesFrom [] t k) ≡ k
+sections-none : (fields t k : ℕ) → sectionsRecords (bodiesFrom fields [] t k) ≡ k
 unfolding sectionsRecords bodiesFrom filedOf bodyRecords
-sections-none t zero = refl
-sections-none t (suc k) = omega (arith, sections-none (suc t) k)
+sections-none fields t zero = refl
+sections-none fields t (suc k) = omega (arith, sections-none fields (suc t) k)
 
-sections-all : (tasks : ℕ) (h : History) → ((e : Entry) (g : History) → At e g h → e .task < tasks)
-    → sectionsRecords (bodiesFrom h 0 tasks) ≡ tasks + orderingCount h + length h
+sections-all : (fields tasks : ℕ) (h : History) → ((e : Entry) (g : History) → At e g h → e .task < tasks)
+    → sectionsRecords (bodiesFrom fields h 0 tasks) ≡ tasks + orderingCount h + length h
 unfolding orderingCount
-sections-all tasks [] low = omega (arith, sections-none 0 tasks)
-sections-all tasks (e ∷ h) low = omega (arith, sections-more e h 0 tasks (omega arith) (omega (arith, low e h here)), sections-all tasks h (λ f g a. low f g (there a)))
+sections-all fields tasks [] low = omega (arith, sections-none fields 0 tasks)
+sections-all fields tasks (e ∷ h) low = omega (arith, sections-more fields e h 0 tasks (omega arith) (omega (arith, low e h here)), sections-all fields tasks h (λ f g a. low f g (there a)))
 
 orderings-joined : (g h : List Entry) → orderingCount (g ++ h) ≡ orderingCount g + orderingCount h
 unfolding orderingCount
@@ -71,7 +71,7 @@ counted-value o asked accepted =
     let f = follows-last o accepted asked in
     omega (
       arith,
-      sections-all (o .tasks) (recorded o asked) (λ e g a. rw (f .tasks-are) at (tracks-tasks (f .tracks) a)),
+      sections-all (o .fields) (o .tasks) (recorded o asked) (λ e g a. rw (f .tasks-are) at (tracks-tasks (f .tracks) a)),
       recorded-sum length (λ g h. length-append g h) [] (firstBox o) (callsOf asked),
       recorded-sum orderingCount orderings-joined [] (firstBox o) (callsOf asked),
     )

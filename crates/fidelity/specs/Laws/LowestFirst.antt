@@ -22,10 +22,11 @@ use Rattle.scheduler.specs.Laws.Finish.{Playing, none-ready, stopped, finish-en
 use Rattle.scheduler.specs.Laws.Schedule.{AllTaken, schedule-finish, finish-steps, schedule-taken, schedule-settled}
 use Rattle.scheduler.specs.Schedule.{scheduleOf, settledOf, playedBy}
 use Rattle.fidelity.specs.Bench.{Bench, benchOf, answerOf, steppedAll, takes, tally}
-use Rattle.fidelity.specs.Box.{Opening, Asked, recorded, recordingOf, recordingBy}
-use Rattle.fidelity.specs.Laws.BoxMatches.{owner-each}
+use Rattle.fidelity.specs.Box.{Opening, Asked, recorded, recordingOf, recordingBy, cellsBy}
+use Rattle.fidelity.specs.Laws.BoxMatches.{cells-each}
 use Rattle.fidelity.specs.Laws.Theorem.{demand-3, run-finished}
 use Rattle.fidelity.specs.Statement.{Accepted, RefusedBy, after}
+use Rattle.codec.specs.Cell.{cellsOf}
 
 -- a play of taken steps is the bench after the same steps, and each is counted
 play-bench : (b : List ℕ) (x : Play) (steps : List ℕ) → AllTaken b x steps
@@ -53,7 +54,7 @@ not-differs n e r = go (r (ne-eqb n 0 (λ z. omega arith)))
     go (inr (inl p)) = omega arith
     go (inr (inr p)) = omega arith
 
-module _ (o : Opening) (asked : List Asked) (outs : ℕ → List ℕ) (lent : List ℕ) (a : Accepted o asked outs lent) (each : length lent ≡ o .objects)
+module _ (o : Opening) (asked : List Asked) (outs : ℕ → List ℕ) (lent : List ℕ) (a : Accepted o asked outs lent) (each : length lent ≡ cellsBy o)
     (p : Parsed) (e : parse (recordingOf o asked outs) ≡ reads p) (same : p .recording ≡ recordingBy o asked) where
   abbrev b : List ℕ
   b = recordingOf o asked outs
@@ -68,7 +69,7 @@ module _ (o : Opening) (asked : List Asked) (outs : ℕ → List ℕ) (lent : Li
   box-playing = let s = opened-stands b p e in record { sound = s .sound; shaped = s .shaped; entries = s .values }
 
   opens : openOf b lent ≡ record { answer = record { number = 0; offset = 0; run = openedRun p }; memory = p .recording .values }
-  opens = open-accepts b lent p e (each ∙ sym (owner-each o (a .opened)) ∙ sym (ap (λ (r : Recording). length (r .owners)) same))
+  opens = open-accepts b lent p e (each ∙ sym (cells-each o (a .opened)) ∙ sym (ap (λ (r : Recording). cellsOf (r .fields) (length (r .owners))) same))
 
   pub box-bench : benchOf b lent ≡ record { run = openedRun p; memory = p .recording .values }
   box-bench = rw opens

@@ -11,14 +11,14 @@ use Rattle.scheduler.specs.Finish.{Play}
 use Rattle.scheduler.specs.Laws.Schedule.{AllTaken}
 use Rattle.scheduler.specs.Schedule.{playedBy}
 use Rattle.fidelity.specs.Bench.{Bench}
-use Rattle.fidelity.specs.Box.{Opening, Asked, recordingOf, recordingBy}
+use Rattle.fidelity.specs.Box.{Opening, Asked, recordingOf, recordingBy, cellsBy}
 use Rattle.fidelity.specs.Laws.LowestFirst.{bench-after, box-counts}
 use Rattle.fidelity.specs.Laws.Paused.{paused, same-tally}
 use Rattle.fidelity.specs.Laws.Theorem.{run-done}
 use Rattle.fidelity.specs.Paused.{AtOnePlace}
 use Rattle.fidelity.specs.Statement.{Accepted, done}
 
-module _ (o : Opening) (asked : List Asked) (outs : ℕ → List ℕ) (lent : List ℕ) (a : Accepted o asked outs lent) (each : length lent ≡ o .objects)
+module _ (o : Opening) (asked : List Asked) (outs : ℕ → List ℕ) (lent : List ℕ) (a : Accepted o asked outs lent) (each : length lent ≡ cellsBy o)
     (p : Parsed) (e : parse (recordingOf o asked outs) ≡ reads p) (same : p .recording ≡ recordingBy o asked) where
   abbrev b : List ℕ
   b = recordingOf o asked outs

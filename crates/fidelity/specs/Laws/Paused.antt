@@ -37,14 +37,15 @@ taken-times u bytes b [] all = refl
 taken-times u bytes b (t ∷ steps) all = rw (all .0, taken-times u bytes (stepped bytes b t) steps (all .1))
 
 -- two steps that show one act
-shown-same : (a : Act) (x y : Stepped) → Shows x a → Shows y a → (x .object ≡ y .object) × (x .value ≡ y .value)
-shown-same (read object value) x y s t = (s .1 ∙ sym (t .1), s .2 ∙ sym (t .2))
-shown-same (write object value) x y s t = (s .1 ∙ sym (t .1), s .2 ∙ sym (t .2))
-shown-same (acquire number) x y s t = absurd s
+shown-same : (fields : ℕ) (a : Act) (x y : Stepped) → Shows fields x a → Shows fields y a → (x .object ≡ y .object) × (x .field ≡ y .field) × (x .value ≡ y .value)
+shown-same fields (read cell value) x y s t = (s .1 ∙ sym (t .1), s .2 ∙ sym (t .2), s .3 ∙ sym (t .3))
+shown-same fields (write cell value) x y s t = (s .1 ∙ sym (t .1), s .2 ∙ sym (t .2), s .3 ∙ sym (t .3))
+shown-same fields (acquire number) x y s t = absurd s
 
 -- two answers that agree but for the run
-answer-same : (x y : Stepped) → x .number ≡ y .number → x .offset ≡ y .offset → x .kind ≡ y .kind → x .object ≡ y .object → x .value ≡ y .value → x .access ≡ y .access → shownOf x ≡ shownOf y
-answer-same x y n o k b v a = λ i. record { number = n i; offset = o i; kind = k i; object = b i; value = v i; access = a i }
+answer-same : (x y : Stepped) → x .number ≡ y .number → x .offset ≡ y .offset → x .kind ≡ y .kind → x .object ≡ y .object → x .field ≡ y .field → x .value ≡ y .value → x .access ≡ y .access
+    → shownOf x ≡ shownOf y
+answer-same x y n o k b f v a = λ i. record { number = n i; offset = o i; kind = k i; object = b i; field = f i; value = v i; access = a i }
 
 module _ (start : ℕ → ℕ) (h : History) (bytes : List ℕ) (p : Parsed) (m : Matches start h bytes p) (one other : List ℕ) (z : openOf bytes one .answer .number ≡ 0)
     (y : openOf bytes other .answer .number ≡ 0) (steps others : List ℕ) where
@@ -64,7 +65,7 @@ module _ (start : ℕ → ℕ) (h : History) (bytes : List ℕ) (p : Parsed) (m 
         let j = sim start h bytes p m other y others in
         frame-same (openedRun p) (here .run) (there .run) bytes (framed start h bytes p m one z steps) (framed start h bytes p m other y others) (i .sound) (j .sound)
         (λ t l. i .done t ∙ same-done t ∙ sym (j .done t))
-        (λ t l. record { entries = leftOf t (afterIn start h steps .done t) h; one = i .left t l; other = rw (same-done t) (j .left t l) })
+        (λ t l. record { entries = leftOf (p .recording .fields) t (afterIn start h steps .done t) h; one = i .left t l; other = rw (same-done t) (j .left t l) })
 
     -- the number of steps taken in all depends only on how many each task has taken
     pub tally-same : tally bytes (benchOf bytes one) steps ≡ tally bytes (benchOf bytes other) others
@@ -88,11 +89,11 @@ module _ (start : ℕ → ℕ) (h : History) (bytes : List ℕ) (p : Parsed) (m 
       let (e, access, number, shows) = answers-recorded start h bytes p m one z steps t a in
       let (f, other-access, other-number, other-shows) = answers-recorded start h bytes p m other y others t b in
       let same : f ≡ e = access-unique other-access (rw d at access) in
-      let v = shown-same (e .act) (answerOf bytes here t) (answerOf bytes there t) shows (rw same at other-shows) in
+      let v = shown-same (p .recording .fields) (e .act) (answerOf bytes here t) (answerOf bytes there t) shows (rw same at other-shows) in
       let k = kind-recorded start h bytes p m one z steps t a in
       let l = kind-recorded start h bytes p m other y others t b in
       answer-same (answerOf bytes here t) (answerOf bytes there t) (eqb-true _ _ a ∙ sym (eqb-true _ _ b)) (k .offset ∙ sym (l .offset))
-      (k .kind e access ∙ sym (l .kind e (rw (← d) access))) (v .0) (v .1) (number ∙ ap suc d ∙ sym other-number)
+      (k .kind e access ∙ sym (l .kind e (rw (← d) access))) (v .0) (v .1) (v .2) (number ∙ ap suc d ∙ sym other-number)
 
 module _ (o : Opening) (asked : List Asked) (outs : ℕ → List ℕ) (one other : List ℕ) (a : Accepted o asked outs one) (b : Accepted o asked outs other) where
   matches : Matches (startOf o) (recorded o asked) (recordingOf o asked outs) (parsedBy o asked)

@@ -19,8 +19,8 @@ use Rattle.scheduler.specs.Schedule.{scheduleOf, settledOf}
 use Rattle.playability.specs.Laws.Counted.{plays-length}
 use Rattle.playability.specs.Laws.Theorem.{free-plays, playable-answers}
 use Rattle.playability.specs.Order.{Plays}
-use Rattle.fidelity.specs.Box.{Opening, Asked, recorded, recordingOf}
-use Rattle.fidelity.specs.Laws.BoxMatches.{parsedBy, owner-each, recording-parsed}
+use Rattle.fidelity.specs.Box.{Opening, Asked, recorded, recordingOf, cellsBy}
+use Rattle.fidelity.specs.Laws.BoxMatches.{parsedBy, recording-parsed, cells-each}
 use Rattle.fidelity.specs.Laws.LowestFirst.{box-settled, box-steps, box-finished}
 use Rattle.fidelity.specs.Playable.{Packed, BoxPlays}
 use Rattle.fidelity.specs.Statement.{Accepted}
@@ -34,16 +34,16 @@ module _ (o : Opening) (asked : List Asked) (outs : ℕ → List ℕ) (w : Packe
   bytes = recordingOf o asked outs
 
   abbrev lent : List ℕ
-  lent = replicate {A = ℕ} (o .objects) 0
+  lent = replicate {A = ℕ} (cellsBy o) 0
 
-  lent-each : length lent ≡ o .objects
-  lent-each = length-replicate {A = ℕ} (o .objects) 0
+  lent-each : length lent ≡ cellsBy o
+  lent-each = length-replicate {A = ℕ} (cellsBy o) 0
 
   accepted : Accepted o asked outs lent
   accepted = record {
     opened = w .opened;
     packed = w .packed;
-    replayed = rw (open-accepts bytes lent (parsedBy o asked) (recording-parsed o (w .opened) asked outs (w .packed)) (lent-each ∙ sym (owner-each o (w .opened))));
+    replayed = rw (open-accepts bytes lent (parsedBy o asked) (recording-parsed o (w .opened) asked outs (w .packed)) (lent-each ∙ sym (cells-each o (w .opened))));
   }
 
   -- the run after the order has finished

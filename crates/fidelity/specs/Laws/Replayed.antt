@@ -28,7 +28,7 @@ use Rattle.replayer.specs.Laws.OpenOf.{opened-stands}
 use Rattle.replayer.specs.OpenOf.{openOf, openedRun}
 use Rattle.replayer.specs.Laws.ReadyOf.{ReadySet, ready-word}
 use Rattle.replayer.specs.ReadyOf.{isReady as isReadyBy, readyOf}
-use Rattle.pending.specs.Run.{taskAt}
+use Rattle.pending.specs.Run.{taskAt, cellCount}
 use Rattle.replayer.specs.Laws.StepOf.{refused-stays}
 use Rattle.replayer.specs.Word.{hasBit}
 use Rattle.replayer.specs.Laws.Word.{zero-bit}
@@ -58,8 +58,11 @@ module _ (start : ℕ → ℕ) (h : History) (bytes : List ℕ) (p : Parsed) (m 
   abbrev tasks : ℕ
   tasks = p .recording .tasks
 
-  abbrev objects : ℕ
-  objects = length (p .recording .owners)
+  abbrev cells : ℕ
+  cells = cellCount (openedRun p)
+
+  abbrev fields : ℕ
+  fields = p .recording .fields
 
   abbrev first : Bench
   first = benchOf bytes memory
@@ -67,24 +70,24 @@ module _ (start : ℕ → ℕ) (h : History) (bytes : List ℕ) (p : Parsed) (m 
   ideal : Faithful start h
   ideal = faithful (m .sound)
 
-  pub sim : (steps : List ℕ) → Sim start h bytes tasks objects (after start h steps) (steppedAll bytes first steps)
-  sim steps = sim-run start h bytes tasks objects (holds start h bytes p m) (fresh start) first (sim-start start h bytes p m memory z) steps
+  pub sim : (steps : List ℕ) → Sim start h bytes tasks cells fields (after start h steps) (steppedAll bytes first steps)
+  sim steps = sim-run start h bytes tasks cells fields (holds start h bytes p m) (fresh start) first (sim-start start h bytes p m memory z) steps
 
-  alike : (steps : List ℕ) (t : ℕ) → Alike start h bytes tasks objects (after start h steps) (steppedAll bytes first steps) t
-  alike steps t = sim-step start h bytes tasks objects (holds start h bytes p m) (after start h steps) (steppedAll bytes first steps) (sim steps) t
+  alike : (steps : List ℕ) (t : ℕ) → Alike start h bytes tasks cells fields (after start h steps) (steppedAll bytes first steps) t
+  alike steps t = sim-step start h bytes tasks cells fields (holds start h bytes p m) (after start h steps) (steppedAll bytes first steps) (sim steps) t
 
   -- the accesses done on the bench are those done in the history's replay
   pub done-same : (steps : List ℕ) → (λ t. tallyOfBy t bytes first steps) ≡ after start h steps .done
-  done-same steps = fun-ext (λ t. tally-of-same start h bytes tasks objects (holds start h bytes p m) t (fresh start) first (sim-start start h bytes p m memory z) steps
+  done-same steps = fun-ext (λ t. tally-of-same start h bytes tasks cells fields (holds start h bytes p m) t (fresh start) first (sim-start start h bytes p m memory z) steps
       ∙ sym (ideal .done-is-tally steps t))
 
   pub counts-same : (steps : List ℕ) → tallyBy bytes first steps ≡ tally h (fresh start) steps
-  counts-same steps = tally-same start h bytes tasks objects (holds start h bytes p m) (fresh start) first (sim-start start h bytes p m memory z) steps
+  counts-same steps = tally-same start h bytes tasks cells fields (holds start h bytes p m) (fresh start) first (sim-start start h bytes p m memory z) steps
 
   -- what the steps leave alone in the run
   pub framed : (steps : List ℕ) → Frame (openedRun p) (steppedAll bytes first steps .run)
   framed steps =
-      frame-run start h bytes tasks objects (holds start h bytes p m) (openedRun p) (fresh start) first (sim-start start h bytes p m memory z)
+      frame-run start h bytes tasks cells fields (holds start h bytes p m) (openedRun p) (fresh start) first (sim-start start h bytes p m memory z)
       (rw (opened-is start h bytes p m memory z) (frame-first (openedRun p) (opened-stands bytes p (m .reads) .shaped))) steps
 
   pub taken-when-ready : (steps : List ℕ) (t : ℕ) → (takesBy bytes (steppedAll bytes first steps) t ≡ true) ↔ Ready h (λ u. tallyOfBy u bytes first steps) t
@@ -95,7 +98,7 @@ module _ (start : ℕ → ℕ) (h : History) (bytes : List ℕ) (p : Parsed) (m 
 
   pub answers-recorded : (steps : List ℕ) (t : ℕ) → takesBy bytes (steppedAll bytes first steps) t ≡ true
       → (e : Entry) × Access h t (suc (tallyOfBy t bytes first steps)) e
-      × (answerOf bytes (steppedAll bytes first steps) t .access ≡ suc (tallyOfBy t bytes first steps)) × Shows (answerOf bytes (steppedAll bytes first steps) t) (e .act)
+      × (answerOf bytes (steppedAll bytes first steps) t .access ≡ suc (tallyOfBy t bytes first steps)) × Shows fields (answerOf bytes (steppedAll bytes first steps) t) (e .act)
   answers-recorded steps t y =
       let s : State = after start h steps in
       let d : tallyOfBy t bytes first steps ≡ s .done t = ap (λ (f : ℕ → ℕ). f t) (done-same steps) in
@@ -107,14 +110,14 @@ module _ (start : ℕ → ℕ) (h : History) (bytes : List ℕ) (p : Parsed) (m 
 
   -- the rest of a taken step's answer
   pub record Answered (steps : List ℕ) (t : ℕ) : Type 0 where
-    pub kind : (e : Entry) → Access h t (suc (tallyOfBy t bytes first steps)) e → answerOf bytes (steppedAll bytes first steps) t .kind ≡ filedOp (e .act) .kind
+    pub kind : (e : Entry) → Access h t (suc (tallyOfBy t bytes first steps)) e → answerOf bytes (steppedAll bytes first steps) t .kind ≡ filedOp fields (e .act) .kind
     pub offset : answerOf bytes (steppedAll bytes first steps) t .offset ≡ 0
 
   pub kind-recorded : (steps : List ℕ) (t : ℕ) → takesBy bytes (steppedAll bytes first steps) t ≡ true → Answered steps t
   kind-recorded steps t y =
       let d : tallyOfBy t bytes first steps ≡ after start h steps .done t = ap (λ (f : ℕ → ℕ). f t) (done-same steps) in
       let (e, w) = alike steps t .played y in
-      record { kind = λ f a. w .kind ∙ ap (λ (g : Entry). filedOp (g .act) .kind) (access-unique (w .access) (rw d at a)); offset = w .offset }
+      record { kind = λ f a. w .kind ∙ ap (λ (g : Entry). filedOp fields (g .act) .kind) (access-unique (w .access) (rw d at a)); offset = w .offset }
 
   -- the bench's run is sound after any steps, so its ready word gives the ready tasks
   word : (steps : List ℕ) → ReadySet (steppedAll bytes first steps .run) bytes
@@ -133,7 +136,7 @@ module _ (start : ℕ → ℕ) (h : History) (bytes : List ℕ) (p : Parsed) (m 
 
   pub word-ready : (steps : List ℕ) (t : ℕ) → (hasBit (readyOf (steppedAll bytes first steps .run) bytes .word) t ≡ true) ↔ Ready h (λ u. tallyOfBy u bytes first steps) t
   word-ready steps t = rw (done-same steps) (elim (decLt t tasks) [
-    | yes l ↦ rw (word steps .bit t (omega (arith, sim steps .tasks-same)), sim-ready start h bytes tasks objects (after start h steps) (steppedAll bytes first steps) (sim steps) t l)
+    | yes l ↦ rw (word steps .bit t (omega (arith, sim steps .tasks-same)), sim-ready start h bytes tasks cells fields (after start h steps) (steppedAll bytes first steps) (sim steps) t l)
         (ideal .test-tells-ready steps t)
     | no l ↦ (
       λ q. absurd (never (hasBit (readyOf (steppedAll bytes first steps .run) bytes .word) t) q (word steps .above t (omega (arith, sim steps .tasks-same)))),
@@ -151,7 +154,7 @@ module _ (start : ℕ → ℕ) (h : History) (bytes : List ℕ) (p : Parsed) (m 
       each t l = elim (split (isReadyBy (steppedAll bytes first steps .run) bytes t)) [
         | fails q ↦ q
         | passes q ↦ absurd (idle t (ideal .test-tells-ready steps t .0
-            (sym (sim-ready start h bytes tasks objects (after start h steps) (steppedAll bytes first steps) (sim steps) t (omega (arith, sim steps .tasks-same))) ∙ q)))
+            (sym (sim-ready start h bytes tasks cells fields (after start h steps) (steppedAll bytes first steps) (sim steps) t (omega (arith, sim steps .tasks-same))) ∙ q)))
       ]
 
   pub stops-at-end : (steps : List ℕ) → (readyOf (steppedAll bytes first steps .run) bytes .word ≡ 0) ↔ (tallyBy bytes first steps ≡ length h)
@@ -162,7 +165,7 @@ module _ (start : ℕ → ℕ) (h : History) (bytes : List ℕ) (p : Parsed) (m 
     λ q. word-none steps (ideal .stops-at-end steps .1 q),
   )
 
-  pub end-memory : (steps : List ℕ) → tallyBy bytes first steps ≡ length h → (c : ℕ) → c < objects → getD (steppedAll bytes first steps .memory) c 0 ≡ reference start h c
+  pub end-memory : (steps : List ℕ) → tallyBy bytes first steps ≡ length h → (c : ℕ) → c < cells → getD (steppedAll bytes first steps .memory) c 0 ≡ reference start h c
   end-memory steps q c l = sim steps .memory c l ∙ ideal .end-memory steps (sym (counts-same steps) ∙ q) c
 
   -- when all accesses are done, no task has any left
@@ -175,11 +178,11 @@ module _ (start : ℕ → ℕ) (h : History) (bytes : List ℕ) (p : Parsed) (m 
       rw (le-ltb (x .done) (x .count) (omega (arith, d, i .done t, i .counts t (omega (arith, l, f, i .tasks-same))))))
 
   -- memory after any steps: the starting values and the writes of the accesses done
-  pub memory-of-writes : (steps : List ℕ) (c : ℕ) → c < objects → getD (steppedAll bytes first steps .memory) c 0 ≡ memoryOf start (λ t. tallyOfBy t bytes first steps) h c
+  pub memory-of-writes : (steps : List ℕ) (c : ℕ) → c < cells → getD (steppedAll bytes first steps .memory) c 0 ≡ memoryOf start (λ t. tallyOfBy t bytes first steps) h c
   memory-of-writes steps c l = rw (done-same steps) (sim steps .memory c l ∙ ideal .memory-of-writes steps c)
 
-  pub memory-entries : (steps : List ℕ) → length (steppedAll bytes first steps .memory) ≡ objects
+  pub memory-entries : (steps : List ℕ) → length (steppedAll bytes first steps .memory) ≡ cells
   memory-entries steps = sim steps .entries
 
   pub recorded-order : AllTakenBy bytes first (recordedOrder h)
-  recorded-order = all-taken-same start h bytes tasks objects (holds start h bytes p m) (fresh start) first (sim-start start h bytes p m memory z) (recordedOrder h) (ideal .recorded-order)
+  recorded-order = all-taken-same start h bytes tasks cells fields (holds start h bytes p m) (fresh start) first (sim-start start h bytes p m memory z) (recordedOrder h) (ideal .recorded-order)

@@ -17,13 +17,14 @@ use Rattle.fidelity.specs.Laws.LeftOver.{left-all}
 use Rattle.fidelity.specs.Laws.Matches.{Matches}
 use Rattle.fidelity.specs.Laws.Sim.{Sim}
 use Rattle.fidelity.specs.Laws.SimStep.{Holds}
+use Rattle.pending.specs.Run.{cellCount}
 
 module _ (start : ℕ → ℕ) (h : History) (bytes : List ℕ) (p : Parsed) (m : Matches start h bytes p) where
   pub holds : Holds start h (p .recording .tasks)
   holds = record { sound = m .sound; low = λ a. m .tasks-low a; recordable = λ a. m .recordable a }
 
   module _ (memory : List ℕ) (z : openOf bytes memory .answer .number ≡ 0) where
-    entries : length memory ≡ length (p .recording .owners)
+    entries : length memory ≡ cellCount (openedRun p)
     entries =
         let o : Opens bytes memory = open-accepted bytes memory z in
         let e : read (o .parsed) ≡ read p = sym (o .reads) ∙ m .reads in
@@ -33,7 +34,7 @@ module _ (start : ℕ → ℕ) (h : History) (bytes : List ℕ) (p : Parsed) (m 
     pub opened-is : benchOf bytes memory ≡ record { run = openedRun p; memory = p .recording .values }
     opened-is = rw (open-accepts bytes memory p (m .reads) entries)
 
-    pub sim-start : Sim start h bytes (p .recording .tasks) (length (p .recording .owners)) (fresh start) (benchOf bytes memory)
+    pub sim-start : Sim start h bytes (p .recording .tasks) (cellCount (openedRun p)) (p .recording .fields) (fresh start) (benchOf bytes memory)
     sim-start =
         let a : AtStart bytes p = opened-stands bytes p (m .reads) in
         rw opened-is (record {
@@ -41,10 +42,11 @@ module _ (start : ℕ → ℕ) (h : History) (bytes : List ℕ) (p : Parsed) (m 
           sound = a .sound;
           shaped = a .shaped;
           tasks-same = refl;
-          objects-same = refl;
+          fields-same = refl;
+          cells-same = refl;
           entries = a .values;
           done = a .done;
-          counts = λ t l. left-opened bytes p (m .reads) t l .count ∙ ap length (m .bodies t l) ∙ filed-count t h;
-          left = λ t l. rw (left-all t h, ← m .bodies t l) (left-opened bytes p (m .reads) t l .left);
+          counts = λ t l. left-opened bytes p (m .reads) t l .count ∙ ap length (m .bodies t l) ∙ filed-count (p .recording .fields) t h;
+          left = λ t l. rw (left-all (p .recording .fields) t h, ← m .bodies t l) (left-opened bytes p (m .reads) t l .left);
           memory = m .values;
         })

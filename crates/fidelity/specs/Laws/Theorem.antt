@@ -11,8 +11,8 @@ use Rattle.reader.specs.Calls.{checkedOf}
 use Rattle.scheduler.specs.Finish.{finishedOf}
 use Rattle.replayer.specs.Laws.OpenOf.{open-accepts}
 use Rattle.fidelity.specs.Bench.{tally, benchOf}
-use Rattle.fidelity.specs.Box.{Opening, openedBy, Asked, lastBox, recorded, recordingOf}
-use Rattle.fidelity.specs.Laws.BoxMatches.{parsedBy, owner-each, box-memory, memory-each, sections-accepted, recording-parsed, box-matches}
+use Rattle.fidelity.specs.Box.{Opening, openedBy, Asked, lastBox, recorded, recordingOf, cellsBy}
+use Rattle.fidelity.specs.Laws.BoxMatches.{parsedBy, box-memory, memory-each, sections-accepted, recording-parsed, box-matches, cells-each, fields-stay}
 use Rattle.fidelity.specs.Laws.BoxReference.{answers-reference, memory-reference}
 use Rattle.fidelity.specs.Laws.FirstBox.{startOf}
 use Rattle.fidelity.specs.Laws.Matches.{Matches}
@@ -28,12 +28,12 @@ module _ (o : Opening) (asked : List Asked) (outs : ℕ → List ℕ) (memory : 
       → after o asked outs memory steps .memory ≡ lastBox o asked .memory
   ends-equal steps e =
       let n = memory-entries (startOf o) (recorded o asked) (recordingOf o asked outs) (parsedBy o asked) matches memory (a .replayed) steps in
-      ext-getD 0 (after o asked outs memory steps .memory) (lastBox o asked .memory) (n ∙ owner-each o (a .opened) ∙ sym (memory-each o (a .opened) asked))
+      ext-getD 0 (after o asked outs memory steps .memory) (lastBox o asked .memory) (n ∙ cells-each o (a .opened) ∙ sym (memory-each o (a .opened) asked))
       (λ c l. end-memory (startOf o) (recorded o asked) (recordingOf o asked outs) (parsedBy o asked) matches memory (a .replayed) steps e c (rw n at l)
       ∙ sym (box-memory o (a .opened) asked c))
 
-  entries : (steps : List ℕ) → length (after o asked outs memory steps .memory) ≡ o .objects
-  entries steps = memory-entries (startOf o) (recorded o asked) (recordingOf o asked outs) (parsedBy o asked) matches memory (a .replayed) steps ∙ owner-each o (a .opened)
+  entries : (steps : List ℕ) → length (after o asked outs memory steps .memory) ≡ cellsBy o
+  entries steps = memory-entries (startOf o) (recorded o asked) (recordingOf o asked outs) (parsedBy o asked) matches memory (a .replayed) steps ∙ cells-each o (a .opened)
 
   -- when all accesses are done, no task has any left
   pub run-finished : (steps : List ℕ) → tally (recordingOf o asked outs) (benchOf (recordingOf o asked outs) memory) steps ≡ length (recorded o asked)
@@ -51,6 +51,7 @@ module _ (o : Opening) (asked : List Asked) (outs : ℕ → List ℕ) (memory : 
   demand-3 = record {
     answers-reference = answers-reference o (a .opened) asked;
     memory-reference = memory-reference o (a .opened) asked;
+    fields-stay = fields-stay o (a .opened) asked;
     reader-takes = rw (recording-parsed o (a .opened) asked outs (a .packed));
     reads-back = (parsedBy o asked, recording-parsed o (a .opened) asked outs (a .packed), refl);
     taken-when-ready = taken-when-ready (startOf o) (recorded o asked) (recordingOf o asked outs) (parsedBy o asked) matches memory (a .replayed);
@@ -60,19 +61,19 @@ module _ (o : Opening) (asked : List Asked) (outs : ℕ → List ℕ) (memory : 
     word-sound = word-sound (startOf o) (recorded o asked) (recordingOf o asked outs) (parsedBy o asked) matches memory (a .replayed);
     word-ready = word-ready (startOf o) (recorded o asked) (recordingOf o asked outs) (parsedBy o asked) matches memory (a .replayed);
     memory-entries = entries;
-    memory-of-writes = λ steps c l. memory-of-writes (startOf o) (recorded o asked) (recordingOf o asked outs) (parsedBy o asked) matches memory (a .replayed) steps c (rw (owner-each o (a .opened)) l);
+    memory-of-writes = λ steps c l. memory-of-writes (startOf o) (recorded o asked) (recordingOf o asked outs) (parsedBy o asked) matches memory (a .replayed) steps c (rw (cells-each o (a .opened)) l);
     never-more = never-more (startOf o) (recorded o asked) (recordingOf o asked outs) (parsedBy o asked) matches memory (a .replayed);
     stops-at-end = stops-at-end (startOf o) (recorded o asked) (recordingOf o asked outs) (parsedBy o asked) matches memory (a .replayed);
     end-memory = ends-equal;
     recorded-order = recorded-order (startOf o) (recorded o asked) (recordingOf o asked outs) (parsedBy o asked) matches memory (a .replayed);
   }
 
--- with outputs that have room for the section record and the log, and a memory of N entries, everything is accepted
+-- with outputs that have room for the section record and the log, and a memory with an entry for each cell, everything is accepted
 pub acceptance : (o : Opening) (asked : List Asked) (outs : ℕ → List ℕ) (memory : List ℕ) → openedBy o .answer .number ≡ 0
-    → ((t : ℕ) → t < o .tasks → 12 + length (lastBox o asked .logs t) ≤ length (outs t)) → length memory ≡ o .objects → Accepted o asked outs memory
+    → ((t : ℕ) → t < o .tasks → 12 + length (lastBox o asked .logs t) ≤ length (outs t)) → length memory ≡ cellsBy o → Accepted o asked outs memory
 acceptance o asked outs memory z room each = record {
   opened = z;
   packed = λ t l. sections-accepted o z asked t l (outs t) (room t l);
   replayed = rw (open-accepts (recordingOf o asked outs) memory (parsedBy o asked)
-      (recording-parsed o z asked outs (λ t l. sections-accepted o z asked t l (outs t) (room t l))) (each ∙ sym (owner-each o z)));
+      (recording-parsed o z asked outs (λ t l. sections-accepted o z asked t l (outs t) (room t l))) (each ∙ sym (cells-each o z)));
 }

@@ -1,6 +1,6 @@
 -- A row of fields as the code reads it.
 use mathlib.Core.Path.{_≡_, refl, ap}
-use mathlib.Core.Bool.{true}
+use mathlib.Core.Bool.{true, false}
 use mathlib.Core.List.{List, [], _∷_, _++_, map}
 use Prim.Native.Nat.{ℕ, zero, suc, _+_, _<_, _≤_}
 use native.Mathlib.Numerals.{add-one}
@@ -14,7 +14,7 @@ use Rattle.codec.specs.Store.{store}
 use Rattle.codec.specs.Laws.Store.{store-split, store-front}
 use Rattle.reader.specs.Parse.{allBelow}
 use Rattle.lines.specs.Number.{none}
-use Rattle.lines.specs.Rows.{isRow, sizesOf}
+use Rattle.lines.specs.Rows.{isRow, noSizes, sizesOf}
 
 -- a row that holds a list from its start
 pub row-take : (row xs : List ℕ) → length xs ≤ length row → take (length xs) (store row 0 xs) ≡ xs
@@ -49,11 +49,23 @@ pub row-facts : (n : ℕ) (f : List ℕ) → isRow n f ≡ true → (length f �
 unfolding isRow
 row-facts n f e = let b = both-pass (eqb (length f) n) (allBelow none f) e in (eqb-true (length f) n (b .0), b .1)
 
-pub sizes-so : (row f now : List ℕ) → now ≡ store row 0 f → isRow 2 f ≡ true → 2 ≤ length row
-    → record { good = true; tasks = getD now 0 0; objects = getD now 1 0 } ≡ sizesOf f
+-- the first line: two numbers, three, or neither
+pub sizes-two : (row f now : List ℕ) → now ≡ store row 0 f → isRow 2 f ≡ true → 2 ≤ length row
+    → record { good = true; tasks = getD now 0 0; objects = getD now 1 0; named = false; fields = 0 } ≡ sizesOf f
 unfolding sizesOf
-sizes-so row f now g e h =
+sizes-two row f now g e h =
     let n = row-facts 2 f e in rw (g, e, row-at row f 0 (omega (arith, n .0)) (omega (arith, n .0)), row-at row f 1 (omega (arith, n .0)) (omega (arith, n .0)))
+
+pub sizes-three : (row f now : List ℕ) → now ≡ store row 0 f → isRow 2 f ≡ false → isRow 3 f ≡ true → 3 ≤ length row
+    → record { good = true; tasks = getD now 0 0; objects = getD now 1 0; named = true; fields = getD now 2 0 } ≡ sizesOf f
+unfolding sizesOf
+sizes-three row f now g d e h =
+    let n = row-facts 3 f e in
+    rw (g, d, e, row-at row f 0 (omega (arith, n .0)) (omega (arith, n .0)), row-at row f 1 (omega (arith, n .0)) (omega (arith, n .0)), row-at row f 2 (omega (arith, n .0)) (omega (arith, n .0)))
+
+pub sizes-none : (f : List ℕ) → isRow 2 f ≡ false → isRow 3 f ≡ false → noSizes ≡ sizesOf f
+unfolding sizesOf
+sizes-none f d e = rw (d, e)
 
 -- the front of the row is the line's fields
 pub row-fields : (row f now : List ℕ) (n : ℕ) → now ≡ store row 0 f → isRow n f ≡ true → n ≤ length row → take n now ≡ f

@@ -11,12 +11,17 @@ use lib.Seq.{drop-drop, drop-at}
 use Rattle.codec.specs.declared.Position.{Position}
 use Rattle.codec.specs.declared.Record.{Record}
 use Rattle.codec.specs.declared.Record.the-variants.{Head, Section, Ordering, Access, Refused}
+use Rattle.codec.specs.Cell.{widthOf}
 use Rattle.codec.specs.Decode.{recordOf}
 use Rattle.codec.specs.Encode.{headObjects, head, section, ordering, access, opLength}
 use Rattle.codec.specs.Field.{Bytes}
-use Rattle.codec.specs.Head.{headLength}
+use Rattle.codec.specs.Head.{headStep, headLength}
+use Rattle.codec.specs.Kind.{headKindOf}
+use Rattle.codec.specs.Laws.Cell.{width-few, cells-are}
 use Rattle.codec.specs.Laws.Encode.{head-length, head-objects-length, section-length, ordering-length, access-length, access-long}
+use Rattle.codec.specs.Laws.Head.{length-long, fields-back}
 use Rattle.codec.specs.Laws.Roundtrip.{FitsPosition, FitsOp, read-head, read-section, read-ordering, read-access}
+use Rattle.codec.specs.Limit.{maxFields}
 use Rattle.codec.specs.Number.{short}
 use Rattle.entries.specs.Bytes.{orderingsBytes, entryBytes, entryLength, bodyBytes, sectionsBytes, bytesOf}
 use Rattle.entries.specs.declared.Limits.{Limits}
@@ -40,7 +45,7 @@ module _ (chosen : ℕ) (b : List ℕ) where
   -- with everything listed, each record that is read has its line
   part-all : (p : Place) (r : Record) → Good r → partAt false chosen p r ≡ lineAt p r
   unfolding partAt listed shows
-  part-all p (Head t n) g = refl
+  part-all p (Head kind t n width) g = refl
   part-all p (Section t n size) g = refl
   part-all p (Ordering q) g = refl
   part-all p (Access o) g = refl
@@ -64,7 +69,7 @@ module _ (chosen : ℕ) (b : List ℕ) where
       }
 
   -- a body's records, given its limits
-  module _ (m : Limits) (t : m .tasks ≤ 65536) (o : m .objects ≤ 65536) where
+  module _ (m : Limits) (t : m .tasks ≤ 65536) (o : m .objects ≤ 65536) (u : m .fields ≤ maxFields) where
     orderings-come : (qs : List Position) (at own number : ℕ) {text rest : List ℕ} → OrderingsIn m qs
         → Comes text (record { at = at; own = own; number = number }) (orderingsBytes qs ++ rest)
         → Comes (text ++ orderingsLines at own qs) (record { at = at + 8 * length qs; own = own; number = number }) rest
@@ -82,7 +87,14 @@ module _ (chosen : ℕ) (b : List ℕ) where
     unfolding entryBytes entryLines lineAt afterOf
     entry-comes e at own number {text} {rest} w c =
         let k = w .op .access in
-        let f : FitsOp (e .op) = record { access = k; object = omega (arith, w .op .below); value = w .op .fits; none = w .op .none } in
+        let f : FitsOp (e .op) = record {
+          access = k;
+          object = omega (arith, w .op .below);
+          field = omega (arith, w .op .field-below, width-few (m .fields) maxFields u (omega arith));
+          value = w .op .fits;
+          no-field = w .op .no-field;
+          none = w .op .none;
+        } in
         let d = orderings-come (e .orderings) at own number (w .orderings) (rw append-assoc at c) in
         let s : at + entryLength e ≡ at + 8 * length (e .orderings) + opLength (e .op) = omega arith in
         rw (s, ← append-assoc)
@@ -103,31 +115,34 @@ module _ (chosen : ℕ) (b : List ℕ) where
         rw (s, n, ← append-assoc) (body-comes es (at + entryLength e) own (number + 1) (w .1) d)
 
   -- the sections, up to the end
-  sections-come : (tasks objects : ℕ) → tasks ≤ 65536 → objects ≤ 65536 → (bodies : List (List Entry)) (t : ℕ) (p : Place) {text : List ℕ} → t + length bodies ≤ 65536
-      → BodiesIn tasks objects t bodies → Comes text p (sectionsBytes t bodies) → linesTo false chosen b (length b) ≡ text ++ sectionsLines (p .at) t bodies
+  sections-come : (tasks objects fields : ℕ) → tasks ≤ 65536 → objects ≤ 65536 → fields ≤ maxFields → (bodies : List (List Entry)) (t : ℕ) (p : Place) {text : List ℕ} → t + length bodies ≤ 65536
+      → BodiesIn tasks objects fields t bodies → Comes text p (sectionsBytes t bodies) → linesTo false chosen b (length b) ≡ text ++ sectionsLines (p .at) t bodies
   unfolding sectionsBytes sectionsLines lineAt afterOf
-  sections-come tasks objects ht ho [] t p {text} h w c =
+  sections-come tasks objects fields ht ho hf [] t p {text} h w c =
       rw append-nil (reached-past false chosen b (length b) text p (c .reached) (omega (arith, rw length-drop at (ap length (c .ahead)))))
-  sections-come tasks objects ht ho (es ∷ bodies) t p {text} h w c =
-      let m : Limits = record { tasks = tasks; objects = objects; own = t } in
+  sections-come tasks objects fields ht ho hf (es ∷ bodies) t p {text} h w c =
+      let m : Limits = record { tasks = tasks; objects = objects; fields = fields; own = t } in
       let z : length (bodyBytes es) ≤ length (bodyBytes es ++ sectionsBytes (suc t) bodies) = rw length-append (omega arith) in
       let r = read-section short t (length es) (length (bodyBytes es)) (bodyBytes es ++ sectionsBytes (suc t) bodies) (omega arith) (w .0 .count) (w .0 .size) z in
       let d = comes-on (section t (length es) (length (bodyBytes es))) (rw append-assoc at c) (Section t (length es) (length (bodyBytes es))) r tt (rw section-length (omega arith)) (rw section-length) in
-      let g = body-comes m ht ho es (p .at + 12) t 1 (w .0 .entries) d in
-      rw (← append-assoc, ← append-assoc) (sections-come tasks objects ht ho bodies (suc t) _ (omega arith) (w .1) g)
+      let g = body-comes m ht ho hf es (p .at + 12) t 1 (w .0 .entries) d in
+      rw (← append-assoc, ← append-assoc) (sections-come tasks objects fields ht ho hf bodies (suc t) _ (omega arith) (w .1) g)
 
 -- the bytes of a recording in range
 pub value-listed : (chosen : ℕ) (b : List ℕ) (r : Recording) → b ≡ bytesOf r → InRange r → linesTo false chosen b (length b) ≡ recordingLines r
 unfolding bytesOf recordingLines head lineAt afterOf
 value-listed chosen b r e i =
+    let f : ℕ = r .fields in
     let n : ℕ = length (r .owners) in
-    let c : Comes chosen b [] start (head (r .tasks) (r .owners) (r .values) ++ sectionsBytes 0 (r .bodies)) = record { reached = reached-start false chosen b (length b); ahead = e } in
-    let z : 5 * n ≤ length (headObjects (r .owners) (r .values) ++ sectionsBytes 0 (r .bodies)) = rw (length-append, head-objects-length (r .owners) (r .values) (i .head .value-each)) (omega arith) in
-    let q = read-head short (r .tasks) n (headObjects (r .owners) (r .values) ++ sectionsBytes 0 (r .bodies)) (omega (arith, i .head .few-tasks)) (i .head .few-objects) z in
-    let k = head-length (r .tasks) (r .owners) (r .values) (i .head .value-each) in
-    let d = comes-on chosen b (head (r .tasks) (r .owners) (r .values)) c (Head (r .tasks) n) (rw append-assoc q) tt (rw k (omega arith)) (rw k (omega arith)) in
-    let y : 0 + headLength n ≡ headLength n = omega arith in
-    rw y at (sections-come chosen b (r .tasks) n (omega (arith, i .head .few-tasks)) (omega (arith, i .head .few-objects)) (r .bodies) 0 _ (omega (arith, i .body-each, i .head .few-tasks)) (i .bodies) d)
+    let h = i .head in
+    let c : Comes chosen b [] start (head f (r .tasks) (r .owners) (r .values) ++ sectionsBytes 0 (r .bodies)) = record { reached = reached-start false chosen b (length b); ahead = e } in
+    let rest = headObjects (widthOf f) (r .owners) (r .values) ++ sectionsBytes 0 (r .bodies) in
+    let z : n * headStep (widthOf f) ≤ length rest = rw (length-append, head-objects-length (widthOf f) (r .owners) (r .values) (cells-are f n (h .value-each))) (omega arith) in
+    let q = read-head short f (r .tasks) n rest (h .few-fields) (omega (arith, h .few-tasks)) (h .few-objects) z in
+    let k = head-length f (r .tasks) (r .owners) (r .values) (h .value-each) in
+    let d = comes-on chosen b (head f (r .tasks) (r .owners) (r .values)) c (Head (headKindOf f) (r .tasks) n (widthOf f)) (rw append-assoc q) tt (rw k (omega (arith, length-long f n))) (rw k (omega arith)) in
+    let y : 0 + headLength f n ≡ headLength f n = omega arith in
+    rw (y, fields-back) at (sections-come chosen b (r .tasks) n f (omega (arith, h .few-tasks)) (omega (arith, h .few-objects)) (h .few-fields) (r .bodies) 0 _ (omega (arith, i .body-each, h .few-tasks)) (i .bodies) d)
 
 -- the lines and their number are the whole text
 pub value-shown : (chosen : ℕ) (b : List ℕ) (p : Parsed) → length b ≤ longest → parse b ≡ read p → b ≡ bytesOf (p .recording) → InRange (p .recording)

@@ -5,9 +5,9 @@ use lib.ListN.{length}
 use denote.Ref.{now}
 use borrow.Author.Tests.{not-true, not-false, lt-ltb, le-ltb}
 use Rattle.codec.specs.Head.{headLength}
-use Rattle.reader.specs.Parse.{allBelow}
-use Rattle.codec.specs.Limit.{isWithin, maxTasks, maxObjects}
+use Rattle.codec.specs.Limit.{isWithin, maxTasks, maxObjects, maxFields}
 use Rattle.codec.specs.Laws.Limit.{within-facts}
+use Rattle.reader.specs.Parse.{allBelow}
 use Rattle.opening.specs.OpenOf.{entriesOk, openNumber}
 use borrow.Author.Needs.{needs}
 use Rattle.opening.proofs.open_number.Statement.{statement}
@@ -20,11 +20,15 @@ tasks-fit c = sym (c .before .within .ensures) ∙ not-false _ (c .if1 .left)
 objects-fit : (c : tie.Else2) → isWithin 1 maxObjects (c .before .before .before .before .before .args .objects) ≡ true
 objects-fit c = sym (c .before .within2 .ensures) ∙ not-false _ (c .if2 .left)
 
-entries-fit : (c : tie.Else3) → let a = c .before .before .before .before .before .before .before .args in entriesOk (a .objects) (length (now (a .owners))) (a .starts) (a .memory) ≡ true
-entries-fit c = sym (c .before .entries-ok .ensures) ∙ not-false _ (c .if3 .left)
+fields-fit : (c : tie.Else3) → let a = c .before .before .before .before .before .before .before .args in isWithin (a .least) maxFields (a .fields) ≡ true
+fields-fit c = sym (c .before .within3 .ensures) ∙ not-false _ (c .if3 .left)
 
-owners-fit : (c : tie.Else4) → let a = c .before .before .before .before .before .before .before .before .before .args in allBelow (a .tasks) (now (a .owners)) ≡ true
-owners-fit c = sym (c .before .owners-below .ensures) ∙ not-false _ (c .if4 .left)
+entries-fit : (c : tie.Else4) → let a = c .before .before .before .before .before .before .before .before .before .args in
+    entriesOk (a .fields) (a .objects) (length (now (a .owners))) (a .starts) (a .memory) ≡ true
+entries-fit c = sym (c .before .entries-ok .ensures) ∙ not-false _ (c .if4 .left)
+
+owners-fit : (c : tie.Else5) → let a = c .before .before .before .before .before .before .before .before .before .before .before .args in allBelow (a .tasks) (now (a .owners)) ≡ true
+owners-fit c = sym (c .before .owners-below .ensures) ∙ not-false _ (c .if5 .left)
 
 within-requires : tie.Need-within-requires
 within-requires c κs = search needs
@@ -40,32 +44,37 @@ returns-2 : tie.Need-returns-2
 unfolding openNumber
 returns-2 c = rw (tasks-fit (c .before .before), sym (c .before .within2 .ensures) ∙ not-true _ (c .if2 .taken))
 
-entries-ok-requires : tie.Need-entries-ok-requires
-entries-ok-requires c κs = search needs
+within-requires-3 : tie.Need-within-requires-3
+within-requires-3 c κs = search needs
 
 returns-3 : tie.Need-returns-3
 unfolding openNumber
-returns-3 c = let d = c .before .before in rw (tasks-fit (d .before .before), objects-fit d, sym (c .before .entries-ok .ensures) ∙ not-true _ (c .if3 .taken))
+returns-3 c = let d = c .before .before in rw (tasks-fit (d .before .before), objects-fit d, sym (c .before .within3 .ensures) ∙ not-true _ (c .if3 .taken))
+
+entries-ok-requires : tie.Need-entries-ok-requires
+entries-ok-requires c κs = (within-facts _ maxFields _ (fields-fit c) .1, within-facts 1 maxObjects _ (objects-fit (c .before .before)) .1)
+
+returns-4 : tie.Need-returns-4
+unfolding openNumber
+returns-4 c = let d = c .before .before in rw (tasks-fit (d .before .before .before .before), objects-fit (d .before .before), fields-fit d, sym (c .before .entries-ok .ensures) ∙ not-true _ (c .if4 .taken))
 
 owners-below-requires : tie.Need-owners-below-requires
 owners-below-requires c κs = search needs
 
-returns-4 : tie.Need-returns-4
-unfolding openNumber
-returns-4 c = let d = c .before .before in rw (tasks-fit (d .before .before .before .before), objects-fit (d .before .before), entries-fit d, sym (c .before .owners-below .ensures) ∙ not-true _ (c .if4 .taken))
-
-head-length-requires : tie.Need-head-length-requires
-head-length-requires c κs = omega (arith, within-facts 1 maxObjects _ (objects-fit (c .before .before .before .before)) .1)
-
 returns-5 : tie.Need-returns-5
 unfolding openNumber
-returns-5 c = let d = c .before .before in let a = d .before .before .before .before .before .before .before .before .before .args in
-    rw (tasks-fit (d .before .before .before .before .before .before), objects-fit (d .before .before .before .before), entries-fit (d .before .before), owners-fit d, lt-ltb (a .out) (headLength (a .objects)) (omega arith))
+returns-5 c = let d = c .before .before in rw (tasks-fit (d .before .before .before .before .before .before), objects-fit (d .before .before .before .before), fields-fit (d .before .before), entries-fit d, sym (c .before .owners-below .ensures) ∙ not-true _ (c .if5 .taken))
+
+head-length-requires : tie.Need-head-length-requires
+head-length-requires c κs = let d = c .before .before .before .before in (omega (arith, within-facts _ maxFields _ (fields-fit d) .1), omega (arith, within-facts 1 maxObjects _ (objects-fit (d .before .before)) .1))
 
 returns-6 : tie.Need-returns-6
 unfolding openNumber
-returns-6 c = let d = c .before .before in let a = d .before .before .before .before .before .before .before .before .before .args in
-    rw (tasks-fit (d .before .before .before .before .before .before), objects-fit (d .before .before .before .before), entries-fit (d .before .before), owners-fit d, le-ltb (a .out) (headLength (a .objects)) (omega arith))
+returns-6 c = let a = c .before .before .before .before .before .before .before .before .before .before .before .before .before .args in let d = c .before .before in rw (tasks-fit (d .before .before .before .before .before .before .before .before), objects-fit (d .before .before .before .before .before .before), fields-fit (d .before .before .before .before), entries-fit (d .before .before), owners-fit d, lt-ltb (a .out) (headLength (a .fields) (a .objects)) (omega arith))
+
+returns-7 : tie.Need-returns-7
+unfolding openNumber
+returns-7 c = let a = c .before .before .before .before .before .before .before .before .before .before .before .before .before .args in let d = c .before .before in rw (tasks-fit (d .before .before .before .before .before .before .before .before), objects-fit (d .before .before .before .before .before .before), fields-fit (d .before .before .before .before), entries-fit (d .before .before), owners-fit d, le-ltb (a .out) (headLength (a .fields) (a .objects)) (omega arith))
 
 pub open-number-spec : {M : Type 1} → statement M
 open-number-spec =
@@ -75,10 +84,12 @@ open-number-spec =
     returns
     within-requires-2
     returns-2
-    entries-ok-requires
+    within-requires-3
     returns-3
-    owners-below-requires
+    entries-ok-requires
     returns-4
-    head-length-requires
+    owners-below-requires
     returns-5
-    returns-6)
+    head-length-requires
+    returns-6
+    returns-7)

@@ -1,4 +1,4 @@
--- How long the texts are: at most 26 bytes for each step of the list, and 2,991 for how it ended.
+-- How long the texts are: at most 28 bytes for each step of the list, and 22,703 for how it ended.
 use mathlib.Core.Path.{_≡_}
 use mathlib.Core.Bool.{true}
 use mathlib.Core.List.{List, [], _∷_}
@@ -8,6 +8,7 @@ use borrow.Author.Tests.{eqb-true}
 use lib.Dec.{eqb}
 use lib.ListN.{length, getD, length-append}
 use Rattle.codec.specs.Field.{Bytes}
+use Rattle.codec.specs.Laws.Cell.{cells-few}
 use Rattle.codec.specs.Laws.Decide.{passes, fails, split}
 use Rattle.codec.specs.Number.{noTask, finished, held}
 use Rattle.pending.specs.Laws.Sound.{sound-facts}
@@ -36,19 +37,19 @@ passed-small n p = elim (split (eqb n noTask)) [
 ]
 
 module _ (b : List ℕ) (by : Bytes b) where
-  tried-few : (x : Play) (t : ℕ) → Small b x → t < 4294967296 → length (triedOf b x t .text) ≤ 26
+  tried-few : (x : Play) (t : ℕ) → Small b x → t < 4294967296 → length (triedOf b x t .text) ≤ 28
   unfolding triedOf
   tried-few x t s h = elim (split (takesStep b x t)) [
     | passes p ↦ rw p (stays b by x t s (eqb-true _ _ p) .line)
     | fails p ↦ elim (split (isPassed (answerAt b x t .number))) [
-      | passes q ↦ rw (p, q) (turned-few t (answerAt b x t .number) (omega arith) (passed-small _ q))
+      | passes q ↦ rw (p, q) (omega (arith, turned-few t (answerAt b x t .number) (omega arith) (passed-small _ q)))
       | fails q ↦ rw (p, q) (omega arith)
     ]
   ]
 
   -- the lines, and the steps taken
   pub record Few (x : Play) (n : ℕ) (f : Followed) : Type 0 where
-    pub lines : length (f .text) ≤ 26 * n
+    pub lines : length (f .text) ≤ 28 * n
     pub steps : f .play .steps ≤ x .steps + n
 
   pub followed-few : (most : ℕ) (counts : List ℕ) (x : Play) (steps : List ℕ) → Standing b counts x → ((i : ℕ) → getD steps i 0 < 4294967296) → Few x (length steps) (followedOf b most counts x steps)
@@ -72,14 +73,14 @@ module _ (b : List ℕ) (by : Bytes b) where
     ]
   ]
 
-  ending-few : (y : Play) → Small b y → y .steps < 100000 → length (endingOf b y) ≤ 2991
+  ending-few : (y : Play) → Small b y → y .steps < 100000 → length (endingOf b y) ≤ 22703
   unfolding endingOf
   ending-few y s h =
       let f = sound-facts _ _ (s .playing .sound) in
       let v = memory-few (y .memory) (λ i. omega (arith, s .values i)) in
       elim (split (finishedOf (y .run))) [
-        | passes p ↦ rw (p, length-append) (omega (arith, end-few true (y .steps) h, v, f .few-objects, s .playing .entries))
-        | fails p ↦ rw p (block-few (y .steps) (y .run) (readyOf (y .run) b .word) (y .memory) h (f .few-tasks) (λ t k. omega (arith, f .task t k .done, s .counts t k)) (omega (arith, f .few-objects, s .playing .entries)) (λ i. omega (arith, s .values i)))
+        | passes p ↦ rw (p, length-append) (omega (arith, end-few true (y .steps) h, v, cells-few _ _ (f .few-fields) (f .few-objects), s .playing .entries))
+        | fails p ↦ rw p (block-few (y .steps) (y .run) (readyOf (y .run) b .word) (y .memory) h (f .few-tasks) (λ t k. omega (arith, f .task t k .done, s .counts t k)) (omega (arith, cells-few _ _ (f .few-fields) (f .few-objects), s .playing .entries)) (λ i. omega (arith, s .values i)))
       ]
 
   module _ (most : ℕ) (counts : List ℕ) (x : Play) (steps : List ℕ) (w : Standing b counts x) (none : x .steps ≡ 0) (n : length steps ≤ 32768) (g : (i : ℕ) → getD steps i 0 < 4294967296) where
@@ -103,6 +104,6 @@ module _ (b : List ℕ) (by : Bytes b) where
         let r = runWithin counts (f .play .run) in
         let s = sound-facts _ _ (followed-stands b by most counts x steps w .small .playing .sound) in
         elim (split (eqb (f .stopped .number) 0)) [
-          | fails p ↦ rw p (omega (arith, differ-short b (f .play .memory) (f .stopped .offset)))
+          | fails p ↦ rw p (omega (arith, differ-short (f .play .run .fields) b (f .play .memory) (f .stopped .offset)))
           | passes p ↦ elim (split (eqb (readyOf r b .word) 0)) [ passes q ↦ rw (p, q) (omega (arith, waits-short b r (r .tasks), s .few-tasks)) | fails q ↦ rw (p, q) (omega arith) ]
         ]

@@ -109,6 +109,7 @@ within-sound b counts x w =
       few-tasks = f .few-tasks;
       some-objects = f .some-objects;
       few-objects = f .few-objects;
+      few-fields = f .few-fields;
       task = λ t h. elim (decLt t (length counts)) [
         | yes k ↦
             let q = held-at counts (r .runs) t k (omega (arith, f .few-tasks, w .small .playing .shaped)) in

@@ -124,7 +124,7 @@ complains w out why why' end h p = record { text = nothing out 0; reasons = p; t
 -- the steps, how they ended, and why
 module _ (b counts : List ℕ) (f : Followed) (out why : List ℕ) (few : length (toldOf b f) ≤ longestText) (why-few : length (whyOf b counts f) ≤ waitsMost) where
   pub said-stopped : (f .stopped .number ≡ 0 → ⊥) → (o : List ℕ) (j : ℕ) → Appended (f .text) out 0 o j → (out' : List ℕ) (end : ℕ) → Appended (refusalOf (f .stopped .number) (f .stopped .offset)) o j out' end
-      → (why' : List ℕ) (n : ℕ) → Appended (differOf b (f .play .memory) (f .stopped .offset)) why 0 why' n → Spoken (saidOf b counts f) out why out' why' (record { text = end; reasons = n })
+      → (why' : List ℕ) (n : ℕ) → Appended (differOf (f .play .run .fields) b (f .play .memory) (f .stopped .offset)) why 0 why' n → Spoken (saidOf b counts f) out why out' why' (record { text = end; reasons = n })
   unfolding toldOf whyOf
   said-stopped z o j p out' end g why' n k = record { text = rw (ne-eqb (f .stopped .number) 0 z) (joined p g); reasons = rw (ne-eqb (f .stopped .number) 0 z) k; text-few = few; reasons-few = why-few }
 

@@ -35,6 +35,10 @@ module _ (r : Run) (t next : ℕ) where
   unfolding movedOf
   moved-objects = refl
 
+  pub moved-fields : movedOf r t next .fields ≡ r .fields
+  unfolding movedOf
+  moved-fields = refl
+
   -- a sound run stays sound if the task had an access left and its next place is within its body
   pub moved-sound : (size : ℕ) → Shaped r → Sound r size → t < r .tasks → taskAt (r .runs) t .done < taskAt (r .runs) t .count → next ≤ taskAt (r .runs) t .end
       → Sound (movedOf r t next) size
@@ -43,6 +47,7 @@ module _ (r : Run) (t next : ℕ) where
     few-tasks = rw moved-tasks (s .few-tasks);
     some-objects = rw moved-objects (s .some-objects);
     few-objects = rw moved-objects (s .few-objects);
+    few-fields = rw moved-fields (s .few-fields);
     task = λ u g. elim (ℕ-discrete u t) [
       | yes e ↦
           let f = s .few-tasks in

@@ -17,7 +17,7 @@ use Rattle.codec.specs.Number.{inBody, ByReader}
 use Rattle.entries.specs.Bytes.{entryLength}
 use Rattle.entries.specs.Laws.Bytes.{entry-long}
 use Rattle.entries.specs.Laws.Entry.{entry-access}
-use Rattle.entries.specs.Laws.EntryCase.{Entered, entry-entered}
+use Rattle.entries.specs.Laws.EntryCase.{Entered, entry-entered, AccessIn}
 use Rattle.entries.specs.Part.{part}
 use Rattle.entries.specs.Laws.Part.{part-length}
 use Rattle.entries.specs.Laws.Numbered.{entry-numbered}
@@ -26,9 +26,11 @@ use Rattle.entries.specs.Recording.{Entry}
 use Rattle.pending.specs.declared.TaskRun.{TaskRun}
 use Rattle.pending.specs.declared.Run.{Run}
 use Rattle.pending.specs.declared.next.Next.the-variants.{Open, Held, Refused}
-use Rattle.pending.specs.Run.{taskAt, limitsOf}
+use Rattle.pending.specs.Run.{taskAt, limitsOf, cellCount}
 use Rattle.pending.specs.Met.{allMet}
 use Rattle.pending.specs.Next.{entryNext, judged, nextOf, isOpen}
+use Rattle.codec.specs.Cell.{cellOf}
+use Rattle.codec.specs.Laws.Cell.{cell-below}
 
 -- the reader's number and offset
 abbrev pub refusalOf : Found → Checked
@@ -77,8 +79,12 @@ module _ (r : Run) (b : List ℕ) (t : ℕ) where
   access o n h = entry-access (limitsOf r t) (stop inBody (taskAt (r .runs) t .place)) (taskAt (r .runs) t .place)
       (part (taskAt (r .runs) t .place) (taskAt (r .runs) t .end) b) (next-entry o n h .entry) (next-entry o n h .reads)
 
-  pub next-below : (o : Op) (n : ℕ) → nextOf r b t ≡ Open o n → o .object < r .objects
-  next-below o n h = rw (next-entry o n h .op) (entered o n h .below)
+  pub next-inside : (o : Op) (n : ℕ) → nextOf r b t ≡ Open o n → AccessIn (limitsOf r t) o
+  next-inside o n h = rw (next-entry o n h .op) (entered o n h .inside)
+
+  -- its cell is one of the memory's
+  pub next-below : (o : Op) (n : ℕ) → nextOf r b t ≡ Open o n → cellOf (r .fields) (o .object) (o .field) < cellCount r
+  next-below o n h = let w = next-inside o n h in cell-below (r .fields) (r .objects) (o .object) (o .field) (w .below) (w .field-below)
 
   pub next-within : (o : Op) (n : ℕ) → nextOf r b t ≡ Open o n → taskAt (r .runs) t .end ≤ length b → (taskAt (r .runs) t .place < n) × (n ≤ taskAt (r .runs) t .end)
   next-within o n h k =

@@ -5,7 +5,7 @@ use Prim.Native.Nat.{ℕ, _≤_, _<_}
 use lib.Dec.{leb}
 use borrow.Author.Tests.{leb-true, le-leb}
 use Rattle.codec.specs.Laws.Decide.{both-pass}
-use Rattle.codec.specs.Limit.{maxTasks, maxObjects, isWithin}
+use Rattle.codec.specs.Limit.{maxTasks, maxObjects, maxFields, isWithin}
 use Rattle.codec.specs.Laws.Limit.{within-facts, within-test}
 use Rattle.pending.specs.declared.TaskRun.{TaskRun}
 use Rattle.pending.specs.declared.Run.{Run}
@@ -24,6 +24,7 @@ pub record Sound (r : Run) (size : ℕ) : Type 0 where
   pub few-tasks : r .tasks ≤ maxTasks
   pub some-objects : 1 ≤ r .objects
   pub few-objects : r .objects ≤ maxObjects
+  pub few-fields : r .fields ≤ maxFields
   pub task : (t : ℕ) → t < r .tasks → SoundTask size (taskAt (r .runs) t)
 
 task-facts : (size : ℕ) (x : TaskRun) → taskSound size x ≡ true → SoundTask size x
@@ -42,6 +43,7 @@ unfolding soundOf
 sound-facts r size p =
     let q = both-pass (isWithin 1 maxTasks (r .tasks)) _ p in
     let s = both-pass (isWithin 1 maxObjects (r .objects)) _ (q .1) in
+    let f = both-pass (leb (r .fields) maxFields) _ (s .1) in
     let t = within-facts 1 maxTasks (r .tasks) (q .0) in
     let n = within-facts 1 maxObjects (r .objects) (s .0) in
     record {
@@ -49,7 +51,8 @@ sound-facts r size p =
       few-tasks = t .1;
       some-objects = n .0;
       few-objects = n .1;
-      task = λ k h. task-facts size (taskAt (r .runs) k) (all-facts (taskSoundAt r size) (r .tasks) (s .1) k h);
+      few-fields = leb-true _ _ (f .0);
+      task = λ k h. task-facts size (taskAt (r .runs) k) (all-facts (taskSoundAt r size) (r .tasks) (f .1) k h);
     }
 
 pub sound-test : (r : Run) (size : ℕ) → Sound r size → soundOf r size ≡ true
@@ -57,4 +60,5 @@ unfolding soundOf
 sound-test r size w = rw (
   within-test 1 maxTasks (r .tasks) (w .some-tasks) (w .few-tasks),
   within-test 1 maxObjects (r .objects) (w .some-objects) (w .few-objects),
+  le-leb (r .fields) maxFields (w .few-fields),
 ) (all-test (taskSoundAt r size) (r .tasks) (λ k h. task-test size (taskAt (r .runs) k) (w .task k h)))

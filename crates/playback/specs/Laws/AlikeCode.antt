@@ -16,6 +16,7 @@ use Rattle.scheduler.specs.Finish.{Play}
 use Rattle.playback.specs.Shown.{shownPlay}
 use Rattle.playback.specs.ToEnd.{playOf}
 use Rattle.reader.specs.Laws.Located.{away, found, located}
+use Rattle.codec.specs.Cell.{cellsOf}
 
 -- the results of the two plays and the two tests on them
 pub compares : (b c : List ℕ) (x y : Play) (p q : Played) (m n : List ℕ) (s a : Bool) → p ≡ shownPlay b x → q ≡ shownPlay c y → m ≡ x .memory → n ≡ y .memory → s ≡ sameEntries m n → a ≡ alikeOf p q s
@@ -41,33 +42,33 @@ module _ (b c m n : List ℕ) (l : Layout) (e : l ≡ layoutOf (parse b)) where
     ]
 
     module _ (y : k .number ≡ 0) where
-      pub first-entries : (length m ≡ l .objects → ⊥) → refusing wrongLength 0 m n ≡ sameOutcomeOf b c m n
+      pub first-entries : (length m ≡ cellsOf (l .fields) (l .objects) → ⊥) → refusing wrongLength 0 m n ≡ sameOutcomeOf b c m n
       unfolding sameOutcomeOf compared
       first-entries h = elim (located b l e) [
         | away d q i o p ↦ absurd (omega (arith, p .0))
         | found p q i o ↦ elim (located c k f) [
           | away d g j u v ↦ absurd (omega (arith, v .0))
-          | found d g j u ↦ rw (q, g, ne-eqb (length m) (length (p .recording .owners)) (λ w. h (w ∙ sym o)))
+          | found d g j u ↦ rw (q, g, ne-eqb (length m) (cellsOf (p .recording .fields) (length (p .recording .owners))) (λ w. h (w ∙ sym o)))
         ]
       ]
 
-      module _ (x : length m ≡ l .objects) where
-        pub second-entries : (length n ≡ k .objects → ⊥) → refusing wrongLength 0 m n ≡ sameOutcomeOf b c m n
+      module _ (x : length m ≡ cellsOf (l .fields) (l .objects)) where
+        pub second-entries : (length n ≡ cellsOf (k .fields) (k .objects) → ⊥) → refusing wrongLength 0 m n ≡ sameOutcomeOf b c m n
         unfolding sameOutcomeOf compared
         second-entries h = elim (located b l e) [
           | away d q i o p ↦ absurd (omega (arith, p .0))
           | found p q i o ↦ elim (located c k f) [
             | away d g j u v ↦ absurd (omega (arith, v .0))
-            | found d g j u ↦ rw (q, g, eq-eqb (length m) (length (p .recording .owners)) (x ∙ o), ne-eqb (length n) (length (d .recording .owners)) (λ w. h (w ∙ sym u)))
+            | found d g j u ↦ rw (q, g, eq-eqb (length m) (cellsOf (p .recording .fields) (length (p .recording .owners))) (x ∙ o), ne-eqb (length n) (cellsOf (d .recording .fields) (length (d .recording .owners))) (λ w. h (w ∙ sym u)))
           ]
         ]
 
-        pub both-play : length n ≡ k .objects → comparing b c (playOf b m) (playOf c n) ≡ sameOutcomeOf b c m n
+        pub both-play : length n ≡ cellsOf (k .fields) (k .objects) → comparing b c (playOf b m) (playOf c n) ≡ sameOutcomeOf b c m n
         unfolding sameOutcomeOf compared
         both-play h = elim (located b l e) [
           | away d q i o p ↦ absurd (omega (arith, p .0))
           | found p q i o ↦ elim (located c k f) [
             | away d g j u v ↦ absurd (omega (arith, v .0))
-            | found d g j u ↦ rw (q, g, eq-eqb (length m) (length (p .recording .owners)) (x ∙ o), eq-eqb (length n) (length (d .recording .owners)) (h ∙ u))
+            | found d g j u ↦ rw (q, g, eq-eqb (length m) (cellsOf (p .recording .fields) (length (p .recording .owners))) (x ∙ o), eq-eqb (length n) (cellsOf (d .recording .fields) (length (d .recording .owners))) (h ∙ u))
           ]
         ]

@@ -21,6 +21,7 @@ use Rattle.replayer.specs.Memory.{performed, agrees}
 use Rattle.replayer.specs.ReadyOf.{hasLeft, readyOf}
 use Rattle.pending.specs.Run.{movedOf}
 use Rattle.replayer.specs.StepOf.{recordAt}
+use Rattle.codec.specs.Cell.{opCell}
 
 -- a play under way: each step leaves one access fewer, and the end it will reach is the same
 pub record Going (b : List ℕ) (start x : Play) : Type 0 where
@@ -45,7 +46,7 @@ shown-so b x y f c q e s = (rw (e, s) (ap (shownPlay b) q), ap (λ (z : Play). z
 
 module _ (b : List ℕ) (start x : Play) (g : Going b start x) where
   module _ (t : ℕ) (op : Op) (next : ℕ) (n : IsNext (x .run) b t op next) where
-    pub going-on : agrees op (x .memory) ≡ true → (r : Run) (m : List ℕ) → r ≡ movedOf (x .run) t next → m ≡ performed op (x .memory)
+    pub going-on : agrees (opCell (x .run .fields) op) op (x .memory) ≡ true → (r : Run) (m : List ℕ) → r ≡ movedOf (x .run) t next → m ≡ performed (opCell (x .run .fields) op) op (x .memory)
         → Going b start (record { run = r; memory = m; steps = x .steps + 1 })
     unfolding onward
     going-on a r m q e =
@@ -56,7 +57,7 @@ module _ (b : List ℕ) (start x : Play) (g : Going b start x) where
         rw (← s) (record { playing = o .playing; steps = omega (arith, o .fewer, g .steps, ap (λ (y : Play). y .steps) s); same = sym (finish-on b x (g .playing) z) ∙ g .same })
 
     -- the memory differs from the read's record: the answer
-    pub going-stopped : agrees op (x .memory) ≡ false → (at : ℕ) → at ≡ recordAt op next
+    pub going-stopped : agrees (opCell (x .run .fields) op) op (x .memory) ≡ false → (at : ℕ) → at ≡ recordAt op next
         → (record { tasks = x .run .tasks; objects = x .run .objects; steps = x .steps; finished = false; stopped = stop differs at } ≡ shownPlay b (finishOf b start))
         × (x .memory ≡ finishOf b start .memory)
     going-stopped a at e =

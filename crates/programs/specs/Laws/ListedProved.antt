@@ -3,7 +3,7 @@ use mathlib.Core.List.{List}
 use mathlib.Core.Path.{_≡_}
 use Prim.Native.Nat.{ℕ}
 use lib.ListN.{length, replicate, length-replicate}
-use Rattle.fidelity.specs.Box.{lastBox, recordingOf}
+use Rattle.fidelity.specs.Box.{lastBox, recordingOf, cellsBy}
 use Rattle.fidelity.specs.Laws.Counted.{counted-value}
 use Rattle.fidelity.specs.Laws.BoxMatches.{parsedBy, in-range, recording-bytes, recording-parsed}
 use Rattle.listing.specs.Laws.Complete.{value-shown}
@@ -17,8 +17,8 @@ lists text z =
     let w = whole-text text z in
     let o = w .opening in
     let outs = outsOf (lastBox o (w .asked)) in
-    let lent = replicate {A = ℕ} (o .objects) 0 in
-    let each : length lent ≡ o .objects = length-replicate {A = ℕ} (o .objects) 0 in
+    let lent = replicate {A = ℕ} (cellsBy o) 0 in
+    let each : length lent ≡ cellsBy o = length-replicate {A = ℕ} (cellsBy o) 0 in
     let a = w .accepted lent each in
     let b = recordingOf o (w .asked) outs in
     let h = rw (w .is) at (w .short) in

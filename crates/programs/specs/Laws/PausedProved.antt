@@ -9,7 +9,7 @@ use borrow.Author.Tests.{ne-eqb}
 use lib.ListN.{length, replicate, length-replicate}
 use Rattle.codec.specs.Laws.Decide.{never}
 use Rattle.entries.specs.Reading.{read as reads}
-use Rattle.fidelity.specs.Box.{Opening, Asked, lastBox, recordingOf, recordingBy}
+use Rattle.fidelity.specs.Box.{Opening, Asked, lastBox, recordingOf, recordingBy, cellsBy}
 use Rattle.fidelity.specs.Laws.BoxMatches.{parsedBy, recording-parsed}
 use Rattle.fidelity.specs.Laws.LowestFirst.{box-refused}
 use Rattle.fidelity.specs.Laws.OnePlace.{one-place}
@@ -34,7 +34,7 @@ refused-passed n (inl p) = rw p
 refused-passed n (inr (inl p)) = rw p
 refused-passed n (inr (inr p)) = rw p
 
-module _ (o : Opening) (asked : List Asked) (outs : ℕ → List ℕ) (lent : List ℕ) (a : Accepted o asked outs lent) (each : length lent ≡ o .objects)
+module _ (o : Opening) (asked : List Asked) (outs : ℕ → List ℕ) (lent : List ℕ) (a : Accepted o asked outs lent) (each : length lent ≡ cellsBy o)
     (p : Parsed) (e : parse (recordingOf o asked outs) ≡ reads p) (same : p .recording ≡ recordingBy o asked) where
   abbrev b : List ℕ
   b = recordingOf o asked outs
@@ -72,8 +72,8 @@ pauses text z =
     let w = whole-text text z in
     let o = w .opening in
     let outs = outsOf (lastBox o (w .asked)) in
-    let lent = replicate {A = ℕ} (o .objects) 0 in
-    let each : length lent ≡ o .objects = length-replicate {A = ℕ} (o .objects) 0 in
+    let lent = replicate {A = ℕ} (cellsBy o) 0 in
+    let each : length lent ≡ cellsBy o = length-replicate {A = ℕ} (cellsBy o) 0 in
     let a = w .accepted lent each in
     let p = parsedBy o (w .asked) in
     let e = recording-parsed o (a .opened) (w .asked) outs (a .packed) in

@@ -3,7 +3,7 @@ use mathlib.Core.List.{List}
 use mathlib.Core.Path.{_≡_, refl, _∙_}
 use Prim.Native.Nat.{ℕ}
 use lib.ListN.{length, replicate, length-replicate}
-use Rattle.fidelity.specs.Box.{lastBox, recordingOf}
+use Rattle.fidelity.specs.Box.{lastBox, recordingOf, cellsBy}
 use Rattle.fidelity.specs.Laws.BoxMatches.{parsedBy, recording-parsed}
 use Rattle.fidelity.specs.Laws.LowestFirst.{box-steps}
 use Rattle.fidelity.specs.Laws.Playable.{box-none-left}
@@ -25,8 +25,8 @@ says-yes text z =
     let w = whole-text text z in
     let o = w .opening in
     let outs = outsOf (lastBox o (w .asked)) in
-    let lent = replicate {A = ℕ} (o .objects) 0 in
-    let each : length lent ≡ o .objects = length-replicate {A = ℕ} (o .objects) 0 in
+    let lent = replicate {A = ℕ} (cellsBy o) 0 in
+    let each : length lent ≡ cellsBy o = length-replicate {A = ℕ} (cellsBy o) 0 in
     let a = w .accepted lent each in
     let b = recordingOf o (w .asked) outs in
     let p = parsedBy o (w .asked) in

@@ -7,6 +7,7 @@ use borrow.Author.Tests.{eqb-true, le-leb}
 use lib.Dec.{eqb, ltb}
 use lib.ListN.{length}
 use Rattle.codec.specs.Laws.Decide.{passes, fails, split}
+use Rattle.faults.specs.Reading.{textSizes}
 use Rattle.lines.specs.AccessLines.{accessLines}
 use Rattle.script.specs.AnswerOf.{longest, streamsOf, messageRoom, answerOf}
 use Rattle.script.specs.Message.{longWord, messageOf}
@@ -22,7 +23,7 @@ message-none text line number e = elim (split (eqb line 0)) [
   | fails p ↦ let f = rw p at e in let z : _≡_ {A = ℕ} 0 1 = cc f in absurd (let y : ⊥ = omega arith in y)
 ]
 
-streams-whole : (text : List ℕ) → streamsOf text .message ≡ [] → WholeRecording (streamsOf text .output) (recordOf text .memory) (accessLines text)
+streams-whole : (text : List ℕ) → streamsOf text .message ≡ [] → WholeRecording (streamsOf text .output) (recordOf text .memory) (textSizes text .named) (accessLines text)
 unfolding streamsOf
 streams-whole text e = elim (split (ltb longest (length text))) [
   | passes p ↦ let f : longWord ≡ [] = rw p at e in let z : _≡_ {A = ℕ} 0 1 = cc in absurd (let y : ⊥ = omega arith in y)
@@ -30,7 +31,7 @@ streams-whole text e = elim (split (ltb longest (length text))) [
 ]
 
 pub whole-answer : (out message : ℕ) (text : List ℕ) → most ≤ out → messageRoom ≤ message → answerOf out message text .message ≡ []
-    → WholeRecording (answerOf out message text .output) (recordOf text .memory) (accessLines text)
+    → WholeRecording (answerOf out message text .output) (recordOf text .memory) (textSizes text .named) (accessLines text)
 unfolding answerOf
 whole-answer out message text h k e =
     let i = le-leb most out h in

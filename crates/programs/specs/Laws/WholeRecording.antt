@@ -5,25 +5,21 @@ use Prim.Native.Nat.{ℕ, zero, suc, _+_, _*_, _-_, _≤_}
 use native.Mathlib.Numerals.{add-one}
 use native.Mathlib.Omega.{arith}
 use borrow.Author.Tests.{eq-eqb, eqb-true, eqb-false}
-use lib.Dec.{eqb}
+use lib.Dec.{eqb, ltb}
 use lib.ListN.{length, take, replicate, length-append, length-replicate}
 use Rattle.codec.specs.Laws.Decide.{passes, fails, split}
-use Rattle.codec.specs.Encode.{head}
-use Rattle.codec.specs.Laws.Encode.{head-length, section-length}
-use Rattle.codec.specs.Head.{headLength}
-use Rattle.reader.specs.Range.{AllUnder}
-use Rattle.opening.specs.OpenOf.{openNumber, opened, openOf}
-use Rattle.opening.specs.Laws.OpenCode.{open-facts}
+use Rattle.codec.specs.Laws.Encode.{section-length}
+use Rattle.opening.specs.Laws.OpenCode.{open-head}
 use Rattle.recorder.specs.WholeRun.{Box, calledAll, packed as packedWhole}
 use Rattle.fidelity.specs.Box.{Opening, openedBy, Asked, firstBox, lastBox, recordedFrom}
 use Rattle.fidelity.specs.Laws.BoxMatches.{sections-accepted}
+use Rattle.fidelity.specs.Laws.FirstBox.{opening-facts, opening-is}
 use Rattle.fidelity.specs.Laws.Packed.{section-wrote}
 use Rattle.fidelity.specs.Laws.Theorem.{acceptance}
 use Rattle.codec.specs.Laws.Store.{store-front}
 use Rattle.lines.specs.Lines.{Line}
 use Rattle.logs.specs.Packed.{packed}
-use Rattle.script.specs.RecordOf.{longestHead, begun, finished, opening, withOpening}
-use Rattle.logs.specs.Laws.Room.{opening-facts}
+use Rattle.script.specs.RecordOf.{longestHead, begun, finished, withOpening}
 use Rattle.logs.specs.Session.{Session, most, fedAll}
 use Rattle.programs.specs.Laws.Numbered.{Numbered}
 use Rattle.programs.specs.WholeRecording.{outsOf, WholeRecording}
@@ -76,56 +72,59 @@ box-none : (b : Box) → b ≡ calledAll b []
 unfolding calledAll
 box-none b = refl
 
--- an opening writes as many bytes as its answer says
-head-size : (tasks objects : ℕ) (owners starts memory out : List ℕ) → openOf tasks objects owners starts memory out .answer .number ≡ 0
-    → length (take (openOf tasks objects owners starts memory out .answer .written) (openOf tasks objects owners starts memory out .out)) ≡ openOf tasks objects owners starts memory out .answer .written
-unfolding openOf opened
-head-size tasks objects owners starts memory out z =
-    elim (split (eqb (openNumber tasks objects owners (length starts) (length memory) (length out)) 0)) [
-      | fails p ↦ absurd (eqb-false _ _ p (rw p at z))
-      | passes p ↦
-          let f = open-facts tasks objects owners (length starts) (length memory) (length out) (eqb-true _ _ p) in
-          let e : length (head tasks owners starts) ≡ headLength objects = head-length tasks owners starts (omega (arith, f .owner-each, f .start-each)) ∙ ap headLength (f .owner-each) in
-          rw (p, store-front out _ _ e (f .room), e)
-    ]
+module _ (o : Opening) (z : openedBy o .answer .number ≡ 0) where
+  -- an opening writes as many bytes as its answer says
+  head-size : length (take (openedBy o .answer .written) (openedBy o .out)) ≡ openedBy o .answer .written
+  head-size =
+      let f = opening-facts o z in
+      let e = open-head (o .starts) f in
+      rw (opening-is o z, store-front (o .out) _ _ e (f .room), e)
 
-module _ (tasks line : ℕ) (owners starts : List ℕ) (ls : List Line) (under : AllUnder 4294967296 starts) (z : opening tasks owners starts .answer .number ≡ 0) where
-  abbrev opened-by : Opening
-  opened-by = record { tasks = tasks; objects = length owners; owners = owners; starts = starts; memory = replicate (length owners) 0; out = replicate longestHead 0; fits = under }
+  head-written : openedBy o .answer .written ≤ length (o .out)
+  head-written = rw (opening-is o z) (opening-facts o z .room)
+
+module _ (o : Opening) (z : openedBy o .answer .number ≡ 0) (room : length (o .out) ≡ longestHead) (line : ℕ) (ls : List Line) where
+  abbrev written : ℕ
+  written = openedBy o .answer .written
 
   abbrev first : Session
-  first = begun (opening tasks owners starts .answer .state) (opening tasks owners starts .memory) (opening tasks owners starts .answer .written) tasks
+  first = begun (openedBy o .answer .state) (openedBy o .memory) written (o .tasks)
 
-  first-ran : Ran opened-by z (opening tasks owners starts .answer .written + 12 * tasks) [] first
+  first-ran : Ran o z (written + 12 * o .tasks) [] first
   unfolding recordedFrom
-  first-ran =
-      let f = opening-facts tasks (length owners) owners starts (replicate (length owners) 0) (replicate longestHead 0) z in
-      record {
-        asked = [];
-        box = box-none (firstBox opened-by);
-        total = omega (arith, sum-none tasks);
-        fits = omega (arith, f .0 .few-tasks, f .0 .few-objects, f .1);
-        asks = λ _. refl;
-        counted = λ _. refl;
-      }
+  first-ran = record {
+    asked = [];
+    box = box-none (firstBox o);
+    total = omega (arith, sum-none (o .tasks));
+    fits = omega (arith, opening-facts o z .few-tasks, head-written o z, room);
+    asks = λ _. refl;
+    counted = λ _. refl;
+  }
 
-  pub whole-recording : Numbered ls → fedAll first ls .line ≡ 0
-      → WholeRecording (withOpening tasks line (opening tasks owners starts) ls .bytes) (withOpening tasks line (opening tasks owners starts) ls .memory) ls
+  whole-made : Numbered ls → fedAll first ls .line ≡ 0
+      → WholeRecording (withOpening (o .tasks) line (openedBy o) ls .bytes) (withOpening (o .tasks) line (openedBy o) ls .memory) (ltb 0 (o .fields)) ls
   unfolding withOpening finished
-  whole-recording k h =
-      let w = opening tasks owners starts .answer .written in
-      let r = ran-all opened-by z (w + 12 * tasks) [] first ls k first-ran in
-      let b = lastBox opened-by (r .asked) in
-      let q : sumLogs (b .logs) tasks ≡ sumLogs (fedAll first ls .box .logs) tasks = ap (λ (x : Box). sumLogs (x .logs) tasks) (sym (r .box)) in
-      let n = head-size tasks (length owners) owners starts (replicate (length owners) 0) (replicate longestHead 0) z in
-      let g = packed-all opened-by z (r .asked) w (omega (arith, r .total, r .fits, q)) 0 tasks w (omega arith) (omega (arith, sum-zero (b .logs))) in
+  whole-made k h =
+      let r = ran-all o z (written + 12 * o .tasks) [] first ls k first-ran in
+      let b = lastBox o (r .asked) in
+      let q : sumLogs (b .logs) (o .tasks) ≡ sumLogs (fedAll first ls .box .logs) (o .tasks) = ap (λ (x : Box). sumLogs (x .logs) (o .tasks)) (sym (r .box)) in
+      let n = head-size o z in
+      let g = packed-all o z (r .asked) written (omega (arith, r .total, r .fits, q)) 0 (o .tasks) written (omega arith) (omega (arith, sum-zero (b .logs))) in
       rw (eq-eqb _ _ z, eq-eqb _ _ h, r .box, n) (record {
-        opening = opened-by;
+        opening = o;
         asked = r .asked;
-        is = ap (λ (x : List ℕ). take w (opening tasks owners starts .out) ++ x) g;
+        is = ap (λ (x : List ℕ). take written (openedBy o .out) ++ x) g;
         asks = r .asks h;
         counted = r .counted h;
         left = refl;
-        short = rw length-append (omega (arith, n, ap length g, packed-size opened-by z (r .asked) w (omega (arith, r .total, r .fits, q)) 0 tasks (omega arith), sum-zero (b .logs), r .total, r .fits, q));
-        accepted = λ lent each. acceptance opened-by (r .asked) (outsOf b) lent z (λ t l. rw (length-replicate {A = ℕ} (12 + length (b .logs t)) 0) (omega arith)) each;
+        short = rw length-append (omega (arith, n, ap length g, packed-size o z (r .asked) written (omega (arith, r .total, r .fits, q)) 0 (o .tasks) (omega arith), sum-zero (b .logs), r .total, r .fits, q));
+        accepted = λ lent each. acceptance o (r .asked) (outsOf b) lent z (λ t l. rw (length-replicate {A = ℕ} (12 + length (b .logs t)) 0) (omega arith)) each;
       })
+
+  pub whole-recording : Numbered ls → withOpening (o .tasks) line (openedBy o) ls .line ≡ 0
+      → WholeRecording (withOpening (o .tasks) line (openedBy o) ls .bytes) (withOpening (o .tasks) line (openedBy o) ls .memory) (ltb 0 (o .fields)) ls
+  unfolding withOpening finished
+  whole-recording k e = elim (split (eqb (fedAll first ls .line) 0)) [
+    | passes q ↦ whole-made k (eqb-true _ _ q)
+    | fails q ↦ absurd (eqb-false _ _ q (rw (eq-eqb _ _ z, q) at e))
+  ]

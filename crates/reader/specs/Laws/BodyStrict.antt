@@ -7,7 +7,7 @@ use native.Mathlib.Omega.{arith}
 use lib.Dec.{eqb, ltb}
 use lib.ListN.{length, drop, length-drop}
 use lib.Seq.{drop-drop}
-use borrow.Author.Tests.{ltb-true, eqb-false, not-true}
+use borrow.Author.Tests.{ltb-true, eqb-false, not-true, eqb-true}
 use Rattle.codec.specs.declared.Position.{Position}
 use Rattle.codec.specs.declared.Op.{Op}
 use Rattle.codec.specs.declared.Record.{Record}
@@ -27,8 +27,9 @@ use Rattle.entries.specs.Recording.{Entry}
 use Rattle.entries.specs.Bytes.{orderingsBytes, entryBytes, entryLength, bodyBytes}
 use Rattle.entries.specs.Laws.Bytes.{entry-long}
 use Rattle.reader.specs.Range.{PositionIn, OpIn, EntryIn, EntriesIn}
-use Rattle.entries.specs.Entry.{after, orderingOk, accessOk, onRecord, accessOf, entryFrom, entryAt}
+use Rattle.entries.specs.Entry.{after, orderingOk, onRecord, accessOf, entryFrom, entryAt, numberOf}
 use Rattle.entries.specs.Body.{bodyFrom, bodyEntries}
+use Rattle.entries.specs.Laws.EntryCase.{access-in}
 
 -- an entry: the bytes begin with it
 abbrev Came : Limits → List ℕ → Reading Entry → Type 0
@@ -47,9 +48,10 @@ position-in m p f ok =
       fits = f .number;
     }
 
-op-in : (m : Limits) (o : Op) → FitsOp o → accessOk m o ≡ true → OpIn m o
-unfolding accessOk
-op-in m o f ok = record { access = f .access; below = ltb-true _ _ ok; fits = f .value; none = f .none }
+op-in : (m : Limits) (o : Op) → FitsOp o → numberOf m o ≡ 0 → OpIn m o
+op-in m o f z =
+    let w = access-in m o z in
+    record { access = f .access; stands = w .stands; below = w .below; field-below = w .field-below; fits = f .value; no-field = f .no-field; none = f .none }
 
 came-after : (m : Limits) (b : List ℕ) (p : Position) (x : Reading Entry) → b ≡ ordering p ++ drop 8 b → PositionIn m p → Came m (drop 8 b) x → Came m b (after p x)
 unfolding entryBytes orderingsBytes
@@ -62,16 +64,16 @@ came-after m b p (read e) q i w =
 
 came-record : (m : Limits) (at : ℕ) (r : Record) (b : List ℕ) (rest : List ℕ → Reading Entry) → Begins r b → Came m (drop 8 b) (rest (drop 8 b)) → Came m b (onRecord m at r b rest)
 unfolding onRecord accessOf entryBytes orderingsBytes
-came-record m at (Head t n) b rest q w = tt
+came-record m at (Head kind t n width) b rest q w = tt
 came-record m at (Section t n s) b rest q w = tt
 came-record m at (Ordering p) b rest q w = elim (split (orderingOk m p)) [
   | passes ok ↦ rw ok (came-after m b p (rest (drop 8 b)) (q .0) (position-in m p (q .1) ok) w)
   | fails ok ↦ rw ok tt
 ]
-came-record m at (Access o) b rest q w = elim (split (accessOk m o)) [
+came-record m at (Access o) b rest q w = elim (split (eqb (numberOf m o) 0)) [
   | passes ok ↦
       let n : 8 * 0 + opLength o ≡ opLength o = omega arith in
-      rw (ok, n) (q .0, record { orderings = tt; op = op-in m o (q .1) ok })
+      rw (ok, n) (q .0, record { orderings = tt; op = op-in m o (q .1) (eqb-true _ _ ok) })
   | fails ok ↦ rw ok tt
 ]
 came-record m at (Refused n) b rest q w = tt

@@ -29,11 +29,11 @@ pub record LogRead (m : Limits) (log : List ℕ) (es : List Entry) : Type 0 wher
   pub size : length log < 4294967296
 
 -- logs that read as the bodies of the tasks from t upward
-abbrev pub LogsRead : ℕ → ℕ → ℕ → List (List ℕ) → List (List Entry) → Type 0
-LogsRead tasks objects t [] [] = Unit {0}
-LogsRead tasks objects t [] (es ∷ bodies) = ⊥
-LogsRead tasks objects t (log ∷ logs) [] = ⊥
-LogsRead tasks objects t (log ∷ logs) (es ∷ bodies) = LogRead (record { tasks = tasks; objects = objects; own = t }) log es × LogsRead tasks objects (suc t) logs bodies
+abbrev pub LogsRead : ℕ → ℕ → ℕ → ℕ → List (List ℕ) → List (List Entry) → Type 0
+LogsRead tasks objects fields t [] [] = Unit {0}
+LogsRead tasks objects fields t [] (es ∷ bodies) = ⊥
+LogsRead tasks objects fields t (log ∷ logs) [] = ⊥
+LogsRead tasks objects fields t (log ∷ logs) (es ∷ bodies) = LogRead (record { tasks = tasks; objects = objects; fields = fields; own = t }) log es × LogsRead tasks objects fields (suc t) logs bodies
 
 -- the section records and logs of the tasks from t upward
 unfoldable pub joined : ℕ → List (List ℕ) → List (List Entry) → List ℕ
@@ -41,21 +41,21 @@ joined t [] bodies = []
 joined t (log ∷ logs) [] = []
 joined t (log ∷ logs) (es ∷ bodies) = section t (length es) (length log) ++ log ++ joined (suc t) logs bodies
 
-joined-bytes : (tasks objects t : ℕ) (logs : List (List ℕ)) (bodies : List (List Entry)) → LogsRead tasks objects t logs bodies
-    → (joined t logs bodies ≡ sectionsBytes t bodies) × BodiesIn tasks objects t bodies
+joined-bytes : (tasks objects fields t : ℕ) (logs : List (List ℕ)) (bodies : List (List Entry)) → LogsRead tasks objects fields t logs bodies
+    → (joined t logs bodies ≡ sectionsBytes t bodies) × BodiesIn tasks objects fields t bodies
 unfolding joined sectionsBytes
-joined-bytes tasks objects t [] [] w = (refl, tt)
-joined-bytes tasks objects t [] (es ∷ bodies) w = absurd w
-joined-bytes tasks objects t (log ∷ logs) [] w = absurd w
-joined-bytes tasks objects t (log ∷ logs) (es ∷ bodies) w =
-    let s = body-strict (record { tasks = tasks; objects = objects; own = t }) 0 log es (w .0 .bytes) (w .0 .reads) in
-    let r = joined-bytes tasks objects (suc t) logs bodies (w .1) in
+joined-bytes tasks objects fields t [] [] w = (refl, tt)
+joined-bytes tasks objects fields t [] (es ∷ bodies) w = absurd w
+joined-bytes tasks objects fields t (log ∷ logs) [] w = absurd w
+joined-bytes tasks objects fields t (log ∷ logs) (es ∷ bodies) w =
+    let s = body-strict (record { tasks = tasks; objects = objects; fields = fields; own = t }) 0 log es (w .0 .bytes) (w .0 .reads) in
+    let r = joined-bytes tasks objects fields (suc t) logs bodies (w .1) in
     (rw (r .0, s .0), (record { entries = s .1; count = w .0 .count; size = rw (s .0) at (w .0 .size) }, r .1))
 
-pub parse-joined : (r : Recording) (logs : List (List ℕ)) → HeadIn (r .tasks) (r .owners) (r .values) → length (r .bodies) ≡ r .tasks
-    → LogsRead (r .tasks) (length (r .owners)) 0 logs (r .bodies)
-    → parse (head (r .tasks) (r .owners) (r .values) ++ joined 0 logs (r .bodies)) ≡ read (record { recording = r; spans = spansOf r })
+pub parse-joined : (r : Recording) (logs : List (List ℕ)) → HeadIn (r .tasks) (r .fields) (r .owners) (r .values) → length (r .bodies) ≡ r .tasks
+    → LogsRead (r .tasks) (length (r .owners)) (r .fields) 0 logs (r .bodies)
+    → parse (head (r .fields) (r .tasks) (r .owners) (r .values) ++ joined 0 logs (r .bodies)) ≡ read (record { recording = r; spans = spansOf r })
 unfolding bytesOf
 parse-joined r logs i l w =
-    let j = joined-bytes (r .tasks) (length (r .owners)) 0 logs (r .bodies) w in
+    let j = joined-bytes (r .tasks) (length (r .owners)) (r .fields) 0 logs (r .bodies) w in
     rw (j .0) (parse-back r (record { head = i; body-each = l; bodies = j .1 }))

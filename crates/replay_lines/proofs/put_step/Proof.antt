@@ -21,14 +21,14 @@ put-byte-requires c κs = omega (arith, line-length (c .before .before .before .
 put-byte-requires-2 : tie.Need-put-byte-requires-2
 put-byte-requires-2 c κs = omega (arith, line-length (c .before .before .before .before .before .before .before .before .before .before .before .before .before .before .before .args .task) (c .before .before .before .before .before .before .before .before .before .before .before .before .before .before .before .args .s))
 
-put-field-requires-3 : tie.Need-put-field-requires-3
-put-field-requires-3 c κs = omega (arith, line-length (c .before .before .before .before .before .before .before .before .before .before .before .before .before .before .before .before .before .before .before .args .task) (c .before .before .before .before .before .before .before .before .before .before .before .before .before .before .before .before .before .before .before .args .s))
+put-object-requires : tie.Need-put-object-requires
+put-object-requires c κs = omega (arith, line-length (c .before .before .before .before .before .before .before .before .before .before .before .before .before .before .before .before .before .before .before .args .task) (c .before .before .before .before .before .before .before .before .before .before .before .before .before .before .before .before .before .before .before .args .s))
 
 cast-put-field : tie.Need-cast-put-field
 cast-put-field c = search needs
 
-put-field-requires-4 : tie.Need-put-field-requires-4
-put-field-requires-4 c κs = omega (arith, line-length (c .before .before .before .before .before .before .before .before .before .before .before .before .before .before .before .before .before .before .before .before .before .before .before .before .args .task) (c .before .before .before .before .before .before .before .before .before .before .before .before .before .before .before .before .before .before .before .before .before .before .before .before .args .s))
+put-field-requires-3 : tie.Need-put-field-requires-3
+put-field-requires-3 c κs = omega (arith, line-length (c .before .before .before .before .before .before .before .before .before .before .before .before .before .before .before .before .before .before .before .before .before .before .before .before .args .task) (c .before .before .before .before .before .before .before .before .before .before .before .before .before .before .before .before .before .before .before .before .before .before .before .before .args .s))
 
 same-length : tie.Need-same-length
 same-length c = search needs
@@ -37,7 +37,7 @@ returns : tie.Need-returns
 unfolding lineOf
 returns c = let front = joined (c .before .before .before .before .before .before .before .before .before .before .before .before .before .before .before .before .before .before .before .before .before .before .before .before .put-field .ensures) (c .before .before .before .before .before .before .before .before .before .before .before .before .before .before .before .before .before .before .before .before .put-field2 .ensures) in
     let sort = joined (rw (c .before .before .before .before .before .before .before .before .before .before .before .before .before .before .before .before .letter .ensures) at (c .before .before .before .before .before .before .before .before .before .before .before .before .before .before .before .put-byte .ensures)) (c .before .before .before .before .before .before .before .before .before .before .before .put-byte2 .ensures) in
-    joined (joined (joined front sort) (c .before .before .before .before .before .before .before .put-field3 .ensures)) (c .before .before .put-field4 .ensures)
+    joined (joined (joined front sort) (c .before .before .before .before .before .before .before .put-object .ensures)) (c .before .before .put-field3 .ensures)
 
 pub put-step-spec : {M : Type 1} → statement M
 put-step-spec =
@@ -48,8 +48,8 @@ put-step-spec =
     letter-requires
     put-byte-requires
     put-byte-requires-2
-    put-field-requires-3
+    put-object-requires
     cast-put-field
-    put-field-requires-4
+    put-field-requires-3
     same-length
     returns)

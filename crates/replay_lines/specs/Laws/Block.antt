@@ -7,6 +7,7 @@ use Prim.Native.Nat.{ℕ, zero, suc, _+_, _*_, _<_, _≤_}
 use native.Mathlib.Decide.{ℕ-discrete}
 use native.Mathlib.Omega.{arith}
 use lib.ListN.{length, getD}
+use Rattle.codec.specs.Limit.{maxCells}
 use Rattle.pending.specs.declared.Run.{Run}
 use Rattle.pending.specs.Each.{each}
 use Rattle.pending.specs.Laws.Each.{each-length, each-at}
@@ -88,6 +89,6 @@ ready-few word =
     omega (arith, row-length (114 ∷ 101 ∷ 97 ∷ 100 ∷ 121 ∷ []) (readyTasks word), chosen-length (hasBit word) 0 16, spaced-few 1 (readyTasks word) small)
 
 pub block-few : (steps : ℕ) (r : Run) (word : ℕ) (m : List ℕ) → steps < 100000 → r .tasks ≤ 16 → ((t : ℕ) → t < r .tasks → doneOf (r .runs) t < 100000)
-    → length m ≤ 256 → ((i : ℕ) → getD m i 0 < 10000000000) → length (blockOf steps r word m) ≤ 2991
+    → length m ≤ maxCells → ((i : ℕ) → getD m i 0 < 10000000000) → length (blockOf steps r word m) ≤ 22703
 block-few steps r word m s t d l v =
     omega (arith, block-length steps r word m, paused-few steps s, done-few r t d, ready-few word, memory-few m v)

@@ -17,13 +17,15 @@ use Rattle.reader.specs.Parse.{Parsed, parse}
 use Rattle.reader.specs.Laws.Numbered.{parse-numbered}
 use Rattle.entries.specs.Reading.{Reading, refused, read}
 use Rattle.reader.specs.Starting.{startingIn}
-use Rattle.reader.specs.Laws.Starting.{starting-there}
+use Rattle.reader.specs.Laws.Starting.{starting-there, facts-fit}
 use Rattle.codec.specs.Number.{entries as wrongLength, ByReader}
 use Rattle.codec.specs.Limit.{maxTasks}
 use Rattle.pending.specs.Run.{blankTasks}
 use Rattle.replayer.specs.Laws.OpenOf.{starts-length}
 use Rattle.replayer.specs.OpenOf.{startOf, startsOf, begunOf, openedRun, refusedOpen, onParse, openOf}
 use Rattle.replayer.specs.OpenedOf.{recordsFor}
+use Rattle.codec.specs.Cell.{cellsOf}
+use Rattle.reader.specs.Laws.Standing.{Standing, parse-stands}
 
 -- the tasks
 pub starts-none : (spans : List Span) → startsOf spans 0 ≡ blankTasks
@@ -56,7 +58,7 @@ starts-same a b (suc n) h = rw (h n (omega arith), starts-same a b n (λ t k. h 
 pub begun-opened : (b : List ℕ) (p : Parsed) (l : Layout) → l ≡ layoutOf (parse b) → parse b ≡ read p → begunOf l ≡ openedRun p
 begun-opened b p l e q =
     let w : Laid p l = rw e (laid-read b p q) in
-    rw (w .tasks, w .objects, starts-same (l .spans) (p .spans) (p .recording .tasks) (w .span))
+    rw (w .tasks, w .objects, w .fields, starts-same (l .spans) (p .spans) (p .recording .tasks) (w .span))
 
 -- what opening finds in the layout
 pub record Refusing (b memory : List ℕ) (number offset : ℕ) : Type 0 where
@@ -67,7 +69,7 @@ pub record Refusing (b memory : List ℕ) (number offset : ℕ) : Type 0 where
 pub record Opening (b memory : List ℕ) (l : Layout) : Type 0 where
   pub answer : record { number = 0; offset = 0; run = begunOf l } ≡ openOf b memory .answer
   pub records : l .records ≡ recordsFor (openOf b memory .answer .number) (parse b)
-  pub values : startingIn b memory ≡ openOf b memory .memory
+  pub values : startingIn (l .fields) (l .objects) b memory ≡ openOf b memory .memory
 
 module _ (b memory : List ℕ) (l : Layout) (e : l ≡ layoutOf (parse b)) where
   pub open-bytes : (l .number ≡ 0 → ⊥) → Refusing b memory (l .number) (l .offset)
@@ -81,7 +83,7 @@ module _ (b memory : List ℕ) (l : Layout) (e : l ≡ layoutOf (parse b)) where
           record { answer = rw (q, n, o); records = rw q; kept = rw q }
       go (read p) q = absurd (h (rw e (laid-read b p q .number)))
 
-  pub open-length : l .number ≡ 0 → (length memory ≡ l .objects → ⊥) → Refusing b memory wrongLength 0
+  pub open-length : l .number ≡ 0 → (length memory ≡ cellsOf (l .fields) (l .objects) → ⊥) → Refusing b memory wrongLength 0
   unfolding openOf onParse recordsFor
   open-length z h = go (parse b) refl
     where
@@ -91,11 +93,11 @@ module _ (b memory : List ℕ) (l : Layout) (e : l ≡ layoutOf (parse b)) where
           let p : ByReader (c .number) = rw q at (parse-numbered b) in
           omega (arith, p .0))
       go (read p) q =
-          let o : l .objects ≡ length (p .recording .owners) = rw e (laid-read b p q .objects) in
-          let d = ne-eqb (length memory) (length (p .recording .owners)) (λ k. h (k ∙ sym o)) in
+          let w : Laid p l = rw e (laid-read b p q) in
+          let d = ne-eqb (length memory) (cellsOf (p .recording .fields) (length (p .recording .owners))) (λ k. h (rw (w .fields, w .objects) k)) in
           record { answer = rw (q, d); records = rw (q, d); kept = rw (q, d) }
 
-  pub open-opens : l .number ≡ 0 → length memory ≡ l .objects → Opening b memory l
+  pub open-opens : l .number ≡ 0 → length memory ≡ cellsOf (l .fields) (l .objects) → Opening b memory l
   unfolding openOf onParse recordsFor
   open-opens z h = go (parse b) refl
     where
@@ -107,10 +109,12 @@ module _ (b memory : List ℕ) (l : Layout) (e : l ≡ layoutOf (parse b)) where
       go (read p) q =
           let w : Laid p l = rw e (laid-read b p q) in
           let v : Valued b p = parse-valued b p q in
-          let n : length memory ≡ length (p .recording .owners) = h ∙ w .objects in
-          let d = eq-eqb (length memory) (length (p .recording .owners)) n in
+          let s : Standing b p = parse-stands b p q in
+          let n : length memory ≡ cellsOf (p .recording .fields) (length (p .recording .owners)) = rw (w .fields, w .objects) at h in
+          let d = eq-eqb (length memory) (cellsOf (p .recording .fields) (length (p .recording .owners))) n in
+          let f = facts-fit (p .recording .fields) (length (p .recording .owners)) (length b) (length memory) (record { few-fields = s .few-fields; few-objects = s .few-objects; within = v .within; cells = n }) in
           record {
             answer = rw (q, d, begun-opened b p l e q);
             records = rw (q, d, w .records);
-            values = rw (starting-there b memory (rw n (v .within)), q, d, n) (sym (v .values));
+            values = rw (w .fields, w .objects, starting-there (p .recording .fields) (length (p .recording .owners)) b memory f, q, d) (sym (v .values));
           }

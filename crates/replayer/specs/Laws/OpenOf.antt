@@ -21,11 +21,13 @@ use Rattle.reader.specs.Laws.Standing.{Standing, parse-stands}
 use Rattle.pending.specs.declared.TaskRun.{TaskRun}
 use Rattle.codec.specs.Number.{entries as wrongLength, ByReader}
 use Rattle.codec.specs.Limit.{maxTasks}
-use Rattle.pending.specs.Run.{blankTask, blankTasks, taskAt, doneOf}
+use Rattle.pending.specs.Run.{blankTask, blankTasks, taskAt, doneOf, cellCount}
 use Rattle.pending.specs.Sound.{soundOf}
 use Rattle.pending.specs.Laws.Sound.{sound-test}
 use Rattle.pending.specs.Laws.Moved.{Shaped}
 use Rattle.replayer.specs.OpenOf.{startOf, startsOf, openedRun, onParse, openOf}
+use Rattle.codec.specs.Cell.{widthOf, cellsOf}
+use Rattle.codec.specs.Laws.Cell.{cells-of}
 
 pub starts-length : (spans : List Span) (n : ℕ) → length (startsOf spans n) ≡ maxTasks
 unfolding startsOf
@@ -69,7 +71,7 @@ pub record AtStart (b : List ℕ) (p : Parsed) : Type 0 where
   pub sound : soundOf (openedRun p) (length b) ≡ true
   pub task : (t : ℕ) → t < p .recording .tasks → taskAt (openedRun p .runs) t ≡ startOf (getD (p .spans) t noSpan)
   pub done : (t : ℕ) → doneOf (openedRun p .runs) t ≡ 0
-  pub values : length (p .recording .values) ≡ length (p .recording .owners)
+  pub values : length (p .recording .values) ≡ cellCount (openedRun p)
 
 pub opened-stands : (b : List ℕ) (p : Parsed) → parse b ≡ read p → AtStart b p
 opened-stands b p e =
@@ -83,24 +85,25 @@ opened-stands b p e =
         few-tasks = s .few-tasks;
         some-objects = s .some-objects;
         few-objects = s .few-objects;
+        few-fields = s .few-fields;
         task = λ t h. rw (k t h) (record { done = omega arith; place = s .inside t noSpan h .0; end = s .inside t noSpan h .1 });
       });
       task = k;
       done = λ t. starts-done (p .spans) (p .recording .tasks) t;
-      values = ap length (v .values) ∙ values-count (length (p .recording .owners)) _;
+      values = ap length (v .values) ∙ values-count (widthOf (p .recording .fields)) (length (p .recording .owners)) _ ∙ cells-of (p .recording .fields) (length (p .recording .owners));
     }
 
--- if the bytes read as a recording and the memory has N entries, the opening is accepted
-pub open-accepts : (b memory : List ℕ) (p : Parsed) → parse b ≡ read p → length memory ≡ length (p .recording .owners)
+-- if the bytes read as a recording and the memory has N times F entries, the opening is accepted
+pub open-accepts : (b memory : List ℕ) (p : Parsed) → parse b ≡ read p → length memory ≡ cellCount (openedRun p)
     → openOf b memory ≡ record { answer = record { number = 0; offset = 0; run = openedRun p }; memory = p .recording .values }
 unfolding openOf onParse
-open-accepts b memory p e h = rw (e, eq-eqb (length memory) (length (p .recording .owners)) h)
+open-accepts b memory p e h = rw (e, eq-eqb (length memory) (cellsOf (p .recording .fields) (length (p .recording .owners))) h)
 
 -- and only then
 pub record Opens (b memory : List ℕ) : Type 0 where
   pub parsed : Parsed
   pub reads : parse b ≡ read parsed
-  pub entries : length memory ≡ length (parsed .recording .owners)
+  pub entries : length memory ≡ cellCount (openedRun parsed)
 
 pub open-accepted : (b memory : List ℕ) → openOf b memory .answer .number ≡ 0 → Opens b memory
 unfolding openOf onParse
@@ -111,7 +114,7 @@ open-accepted b memory h = go (parse b) refl
         let n : c .number ≡ 0 = rw q at h in
         let z : ByReader (c .number) = rw q at (parse-numbered b) in
         omega (arith, z .0))
-    go (read p) q = elim (split (eqb (length memory) (length (p .recording .owners)))) [
+    go (read p) q = elim (split (eqb (length memory) (cellsOf (p .recording .fields) (length (p .recording .owners))))) [
       | passes d ↦ record { parsed = p; reads = q; entries = eqb-true _ _ d }
       | fails d ↦ absurd (let z : _≡_ {A = ℕ} wrongLength 0 = rw (q, d) at h in omega arith)
     ]

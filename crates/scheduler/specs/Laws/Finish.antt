@@ -17,7 +17,7 @@ use Rattle.scheduler.specs.Finish.{Play, wordAt, taskNext, goesOn, onwar
 use Rattle.pending.specs.Laws.Moved.{Shaped, moved-own, moved-other, moved-tasks}
 use Rattle.replayer.specs.Laws.ReadyOf.{ready, nowhere, ready-word}
 use Rattle.replayer.specs.ReadyOf.{isReady, readyOf}
-use Rattle.pending.specs.Run.{taskAt, movedOf}
+use Rattle.pending.specs.Run.{taskAt, movedOf, cellCount}
 use Rattle.pending.specs.Sound.{soundOf}
 use Rattle.pending.specs.Laws.Sound.{sound-facts}
 use Rattle.replayer.specs.Laws.StepOf.{Differs, taken, turned, differing, step-goes, step-keeps}
@@ -28,7 +28,7 @@ use Rattle.replayer.specs.Laws.Word.{zero-bit}
 pub record Playing (b : List ℕ) (x : Play) : Type 0 where
   pub sound : soundOf (x .run) (length b) ≡ true
   pub shaped : Shaped (x .run)
-  pub entries : length (x .memory) ≡ x .run .objects
+  pub entries : length (x .memory) ≡ cellCount (x .run)
 
 -- if no test passes, the word is 0
 word-zero : (f : ℕ → Bool) (i n : ℕ) → ((s : ℕ) → s < n → f (i + s) ≡ false) → wordOf f i n ≡ 0
@@ -75,7 +75,7 @@ module _ (b : List ℕ) (x : Play) (w : Playing b x) where
   unfolding onward
   kept =
       let k = step-keeps (x .run) b (x .memory) (taskNext b x) (w .sound) (w .shaped) (w .entries) in
-      record { sound = k .sound; shaped = k .shaped; entries = k .entries ∙ w .entries ∙ sym (k .objects) }
+      record { sound = k .sound; shaped = k .shaped; entries = k .entries ∙ w .entries ∙ sym (k .cells) }
 
   pub goes-onward : goesOn b x ≡ true → Onward b x
   unfolding onward

@@ -33,6 +33,7 @@ use Rattle.replayer.specs.Laws.StepCode.{clear-early-number, step-next}
 use Rattle.pending.specs.Laws.Sound.{sound-facts, sound-test}
 use Rattle.scheduler.specs.Laws.Visit.{Noted, noted-onward}
 use Rattle.replayer.specs.Word.{hasBit, lowestIn, lowestReady}
+use Rattle.codec.specs.Cell.{opCell}
 
 abbrev pub readyAt : ℕ → Next → NextStep
 readyAt t (Open op next) = Ready t op
@@ -168,10 +169,10 @@ module _ (b : List ℕ) (x : Play) (w : Playing b x) (t : ℕ) (op : Op) (next :
       (sym (clear-early-number (x .run) (length b) (length (x .memory)) t (record { sound = w .sound; memory = w .entries; below = n .below; left = n .left })))
       refl (Open op next) (sym (n .opens))
 
-  pub step-agrees : agrees op (x .memory) ≡ true → stepOf (x .run) b (x .memory) t ≡ doneStep (x .run) (x .memory) t op next
+  pub step-agrees : agrees (opCell (x .run .fields) op) op (x .memory) ≡ true → stepOf (x .run) b (x .memory) t ≡ doneStep (x .run) (x .memory) t op next
   unfolding onNext
   step-agrees a = step-open ∙ rw a
 
-  pub step-differs : agrees op (x .memory) ≡ false → stepOf (x .run) b (x .memory) t ≡ record { answer = refusedStep (x .run) differs (recordAt op next); memory = x .memory }
+  pub step-differs : agrees (opCell (x .run .fields) op) op (x .memory) ≡ false → stepOf (x .run) b (x .memory) t ≡ record { answer = refusedStep (x .run) differs (recordAt op next); memory = x .memory }
   unfolding onNext
   step-differs a = step-open ∙ rw a

@@ -24,6 +24,7 @@ use Rattle.pending.specs.Sound.{soundOf}
 use Rattle.replayer.specs.Laws.StepOf.{taken, turned, differing, step-goes, step-keeps}
 use Rattle.replayer.specs.Memory.{agrees}
 use Rattle.replayer.specs.StepOf.{stepOf}
+use Rattle.codec.specs.Cell.{opCell}
 
 -- no task is ready, or the next one is stepped
 pub schedule-stops : (n : ℕ) (b : List ℕ) (r : Run) → readyOf r b .word ≡ 0 → scheduleFrom n b r ≡ []
@@ -104,7 +105,7 @@ pub record StepTaken (b : List ℕ) (x : Play) (t next : ℕ) : Type 0 where
   pub same : onward b x ≡ steppedBy b x t
   pub playing : Playing b (steppedBy b x t)
 
-pub step-taken : (b : List ℕ) (x : Play) → Playing b x → (t : ℕ) (op : Op) (next : ℕ) → IsNext (x .run) b t op next → agrees op (x .memory) ≡ true → StepTaken b x t next
+pub step-taken : (b : List ℕ) (x : Play) → Playing b x → (t : ℕ) (op : Op) (next : ℕ) → IsNext (x .run) b t op next → agrees (opCell (x .run .fields) op) op (x .memory) ≡ true → StepTaken b x t next
 unfolding onward
 step-taken b x w t op next n a =
     let e = step-agrees b x w t op next n a in
@@ -113,7 +114,7 @@ step-taken b x w t op next n a =
     record { number = rw e; run = rw (e, steppedBy); goes = g; takes = rw e; same = s; playing = rw s at (goes-onward b x w g .playing) }
 
 -- a play whose next step gives 19 stays where it is
-step-stays : (b : List ℕ) (x : Play) → Playing b x → (t : ℕ) (op : Op) (next : ℕ) → IsNext (x .run) b t op next → agrees op (x .memory) ≡ false
+step-stays : (b : List ℕ) (x : Play) → Playing b x → (t : ℕ) (op : Op) (next : ℕ) → IsNext (x .run) b t op next → agrees (opCell (x .run .fields) op) op (x .memory) ≡ false
     → (takesStep b x t ≡ false) × (goesOn b x ≡ false)
 step-stays b x w t op next n a = let e = step-differs b x w t op next n a in (rw e, rw (n .first, e))
 
@@ -122,7 +123,7 @@ unfolding scheduleFrom playedBy playedOf
 finishes zero b x w = refl
 finishes (suc n) b x w = elim (standing (x .run) b (w .sound)) [
   | stops z ↦ rw (eq-eqb (readyOf (x .run) b .word) 0 z, none-stops b x w z)
-  | goes-on t op next k ↦ elim (split (agrees op (x .memory))) [
+  | goes-on t op next k ↦ elim (split (agrees (opCell (x .run .fields) op) op (x .memory))) [
     | passes a ↦
         let s = step-taken b x w t op next k a in
         rw (schedule-goes n b (x .run) t op next k, s .takes, s .goes, s .same, s .run) (finishes n b (steppedBy b x t) (s .playing))
@@ -146,7 +147,7 @@ taken-ran b x [] w a = refl
 taken-ran b x (t ∷ steps) w a = elim (step-goes (x .run) b (x .memory) t (w .sound) (w .entries)) [
   | taken op next g ↦
       let k = step-keeps (x .run) b (x .memory) t (w .sound) (w .shaped) (w .entries) in
-      let p : Playing b (steppedBy b x t) = record { sound = k .sound; shaped = k .shaped; entries = k .entries ∙ w .entries ∙ sym (k .objects) } in
+      let p : Playing b (steppedBy b x t) = record { sound = k .sound; shaped = k .shaped; entries = k .entries ∙ w .entries ∙ sym (k .cells) } in
       rw (eq-eqb _ 0 (a .0)) (taken-ran b (steppedBy b x t) steps p (a .1) ∙ ap (λ (q : Run). ranBy b q steps) (g .run ∙ sym (behind-open b (x .run) t op next (g .opens))))
   | turned u f g ↦ absurd (g .number (a .0))
   | differing op next d g ↦ absurd (g .number (a .0))
@@ -158,7 +159,7 @@ unfolding scheduleFrom playedOf AllTaken
 takes zero b x w e = tt
 takes (suc n) b x w e = elim (standing (x .run) b (w .sound)) [
   | stops z ↦ rw (eq-eqb (readyOf (x .run) b .word) 0 z) tt
-  | goes-on t op next k ↦ elim (split (agrees op (x .memory))) [
+  | goes-on t op next k ↦ elim (split (agrees (opCell (x .run .fields) op) op (x .memory))) [
     | passes a ↦
         let s = step-taken b x w t op next k a in
         rw (schedule-goes n b (x .run) t op next k, s .run) (s .number, takes n b (steppedBy b x t) (s .playing) (rw (s .goes, s .same) at e))

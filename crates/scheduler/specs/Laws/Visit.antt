@@ -21,7 +21,7 @@ use Rattle.pending.specs.Dones.{donesOf}
 use Rattle.pending.specs.Laws.Dones.{dones-at}
 use Rattle.pending.specs.Look.{groupAt, Looks}
 use Rattle.pending.specs.Laws.Look.{OneTask, look-next}
-use Rattle.pending.specs.Laws.Moved.{Shaped, moved-own, moved-other, moved-tasks, moved-objects}
+use Rattle.pending.specs.Laws.Moved.{Shaped, moved-own, moved-other, moved-tasks, moved-objects, moved-fields}
 use Rattle.pending.specs.Next.{entryNext, nextOf, isOpen}
 use Rattle.pending.specs.Laws.Next.{judged-open, next-entry}
 use Rattle.pending.specs.FirstUnmet.{Ahead}
@@ -115,7 +115,7 @@ module _ (r : Run) (b : List ℕ) (t : ℕ) (op : Op) (next : ℕ) (s : Shaped r
       → Note (limitsOf (movedOf r t next) u) b (donesOf (movedOf r t next .runs)) (taskAt (movedOf r t next .runs) u) scan at
   still u scan at n = elim (ℕ-discrete u t) [
     | yes e ↦ λ h. absurd (omega (arith, past scan at (rw e at n), ap (λ (y : TaskRun). y .place) (moved-own r t next s f), rw e at h))
-    | no e ↦ rw (moved-other r t next u e, moved-tasks, moved-objects) (λ h. ahead-later _ _ _ _ _ _ _ _ risen (n h))
+    | no e ↦ rw (moved-other r t next u e, moved-tasks, moved-objects, moved-fields) (λ h. ahead-later _ _ _ _ _ _ _ _ risen (n h))
   ]
 
   pub noted-onward : (scans ats : List ℕ) → Noted r b scans ats → Noted (movedOf r t next) b scans ats

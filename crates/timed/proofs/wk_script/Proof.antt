@@ -1,5 +1,5 @@
 use mathlib.Core.Path.{_≡_, refl, ap}
-use Prim.Native.Nat.{_*_, _-_, _/_, _≤_, _<_}
+use Prim.Native.Nat.{_+_, _*_, _-_, _/_, _≤_, _<_}
 use native.Mathlib.Omega.{arith}
 use denote.Ref.{now}
 use lib.ListN.{length}
@@ -10,16 +10,16 @@ use Rattle.timed.proofs.wk_script.Statement.{statement}
 use Rattle.timed.proofs.wk_script.Tie as tie
 
 abbrev Inv-loop : tie.InvT-loop
-Inv-loop tasks objects owners starts script memory₀ out₀ state₀ digest₀ i₀ i-end memory out state digest i =
-    (4 * i ≤ length script) × (length script < 18446744073709551616) × (length memory ≡ length memory₀) × (length out ≡ length out₀)
+Inv-loop tasks objects fields owners starts script memory₀ out₀ state₀ digest₀ i₀ i-end memory out state digest i =
+    (5 * i ≤ length script) × (length script < 18446744073709551616) × (length memory ≡ length memory₀) × (length out ≡ length out₀)
     × (_≡_ {A = Scripted} (record { state = state; memory = memory; out = out; digest = digest }) (accessesTo script i (record { state = state₀; memory = memory₀; out = out₀; digest = digest₀ })))
-    × (i ≤ length script / 4)
+    × (i ≤ length script / 5)
 
 abbrev μ-loop : tie.MeasureT-loop
-μ-loop tasks objects owners starts script memory₀ out₀ state₀ digest₀ i₀ i-end memory out state digest i = length script - 4 * i
+μ-loop tasks objects fields owners starts script memory₀ out₀ state₀ digest₀ i₀ i-end memory out state digest i = length script - 5 * i
 
-open-requires : tie.Need-open-requires Inv-loop μ-loop
-open-requires c κs = search needs
+opened-requires : tie.Need-opened-requires Inv-loop μ-loop
+opened-requires c κs = search needs
 
 loop-holds : tie.Need-loop-holds Inv-loop μ-loop
 unfolding accessesTo
@@ -49,11 +49,23 @@ shared-slice-read-wide-2 c = search needs
 wide-requires-2 : tie.Need-wide-requires-2 Inv-loop μ-loop
 wide-requires-2 c κs = search needs
 
+add-wide-2 : tie.Need-add-wide-2 Inv-loop μ-loop
+add-wide-2 c = search needs
+
+mul-wide-3 : tie.Need-mul-wide-3 Inv-loop μ-loop
+mul-wide-3 c = omega (arith, c .before .before .before .before .loop-test .taken, c .before .before .before .before .before .loop .inv .0, c .before .before .before .before .before .before .before .before .before .before .before .before .before .before .before .before .before .before .before .good)
+
+shared-slice-read-wide-3 : tie.Need-shared-slice-read-wide-3 Inv-loop μ-loop
+shared-slice-read-wide-3 c = search needs
+
+wide-requires-3 : tie.Need-wide-requires-3 Inv-loop μ-loop
+wide-requires-3 c κs = search needs
+
 add-access : tie.Need-add-access Inv-loop μ-loop
 add-access c = search needs
 
 mul-access : tie.Need-mul-access Inv-loop μ-loop
-mul-access c = search needs
+mul-access c = omega (arith, c .before .before .before .before .before .before .loop-test .taken, c .before .before .before .before .before .before .before .loop .inv .0, c .before .before .before .before .before .before .before .before .before .before .before .before .before .before .before .before .before .before .before .before .before .good)
 
 shared-slice-read-access : tie.Need-shared-slice-read-access Inv-loop μ-loop
 shared-slice-read-access c = search needs
@@ -62,7 +74,7 @@ add-access-2 : tie.Need-add-access-2 Inv-loop μ-loop
 add-access-2 c = search needs
 
 mul-access-2 : tie.Need-mul-access-2 Inv-loop μ-loop
-mul-access-2 c = search needs
+mul-access-2 c = omega (arith, c .before .before .before .before .before .before .before .loop-test .taken, c .before .before .before .before .before .before .before .before .loop .inv .0, c .before .before .before .before .before .before .before .before .before .before .before .before .before .before .before .before .before .before .before .before .before .before .good)
 
 shared-slice-read-access-2 : tie.Need-shared-slice-read-access-2 Inv-loop μ-loop
 shared-slice-read-access-2 c = search needs
@@ -77,21 +89,21 @@ mixed-requires : tie.Need-mixed-requires Inv-loop μ-loop
 mixed-requires c κs = search needs
 
 add-i : tie.Need-add-i Inv-loop μ-loop
-add-i c = omega (arith, c .before .before .before .before .before .before .before .before .before .before .before .before .before .before .before .before .loop-test .taken, c .before .before .before .before .before .before .before .before .before .before .before .before .before .before .before .before .before .loop .inv .0, c .before .before .before .before .before .before .before .before .before .before .before .before .before .before .before .before .before .loop .inv .1)
+add-i c = omega (arith, c .before .before .before .before .before .before .before .before .before .before .before .before .before .before .before .before .before .before .loop-test .taken, c .before .before .before .before .before .before .before .before .before .before .before .before .before .before .before .before .before .before .before .loop .inv .0, c .before .before .before .before .before .before .before .before .before .before .before .before .before .before .before .before .before .before .before .loop .inv .1)
 
 loop-less : tie.Need-loop-less Inv-loop μ-loop
 loop-less c = search needs
 
 loop-again : tie.Need-loop-again Inv-loop μ-loop
 loop-again c =
-    let l = c .before .before .before .before .before .before .before .before .before .before .before .before .before .before .before .before .before .loop in
+    let l = c .before .before .before .before .before .before .before .before .before .before .before .before .before .before .before .before .before .before .before .loop in
     let a = c .before .before .before .before .before .before .before .access in (
-      omega (arith, c .before .before .before .before .before .before .before .before .before .before .before .before .before .before .before .before .loop-test .taken),
+      omega (arith, c .before .before .before .before .before .before .before .before .before .before .before .before .before .before .before .before .before .before .loop-test .taken),
       l .inv .1,
       search needs,
       search needs,
-      access-turn _ (l .i) _ (record { state = l .state; memory = l .memory; out = l .out; digest = l .digest }) _ _ _ _ _ _ _ (l .inv .4) (c .before .before .before .before .before .before .before .before .before .before .before .before .before .before .wide .ensures) (c .before .before .before .before .before .before .before .before .before .before .before .before .wide2 .ensures) (a .ensures .0) (a .ensures .1 .0) (a .ensures .1 .1) (c .before .before .access-word .ensures .0) (c .before .mixed .ensures),
-      omega (arith, c .before .before .before .before .before .before .before .before .before .before .before .before .before .before .before .before .loop-test .taken),
+      access-turn _ (l .i) _ (record { state = l .state; memory = l .memory; out = l .out; digest = l .digest }) _ _ _ _ _ _ _ _ (l .inv .4) (c .before .before .before .before .before .before .before .before .before .before .before .before .before .before .before .before .wide .ensures) (c .before .before .before .before .before .before .before .before .before .before .before .before .before .before .wide2 .ensures) (c .before .before .before .before .before .before .before .before .before .before .before .before .wide3 .ensures) (a .ensures .0) (a .ensures .1 .0) (a .ensures .1 .1) (c .before .before .access-word .ensures .0) (c .before .mixed .ensures),
+      omega (arith, c .before .before .before .before .before .before .before .before .before .before .before .before .before .before .before .before .before .before .loop-test .taken),
     )
 
 same-length : tie.Need-same-length Inv-loop μ-loop
@@ -104,9 +116,9 @@ returns : tie.Need-returns Inv-loop μ-loop
 returns c =
     let l = c .before .loop in
     let a = c .before .before .before .before .before .before .before .before .before .before .before .before .before .before .before .args in
-    let o = c .before .before .before .before .before .before .before .«open» .ensures in
-    let n : l .i ≡ length (now (a .script)) / 4 = omega (arith, c .loop-test .left) in
-    let e : _≡_ {A = Scripted} (record { state = l .state; memory = l .memory; out = l .out; digest = l .digest }) (scriptOf (a .tasks) (a .objects) (now (a .owners)) (now (a .starts)) (now (a .script)) (now (a .memory)) (now (a .out))) =
+    let o = c .before .before .before .before .before .before .before .opened .ensures in
+    let n : l .i ≡ length (now (a .script)) / 5 = omega (arith, c .loop-test .left) in
+    let e : _≡_ {A = Scripted} (record { state = l .state; memory = l .memory; out = l .out; digest = l .digest }) (scriptOf (a .tasks) (a .objects) (a .fields) (now (a .owners)) (now (a .starts)) (now (a .script)) (now (a .memory)) (now (a .out))) =
     rw (n, o .0, o .1 .0, o .1 .1) at (l .inv .4) in
     (ap (λ (x : Scripted). x .digest) e, (ap (λ (x : Scripted). x .memory) e, ap (λ (x : Scripted). x .out) e))
 
@@ -116,7 +128,7 @@ wk-script-spec =
     (tie.spec
     Inv-loop
     μ-loop
-    open-requires
+    opened-requires
     loop-holds
     mul-at
     mul-wide
@@ -126,6 +138,10 @@ wk-script-spec =
     mul-wide-2
     shared-slice-read-wide-2
     wide-requires-2
+    add-wide-2
+    mul-wide-3
+    shared-slice-read-wide-3
+    wide-requires-3
     add-access
     mul-access
     shared-slice-read-access

@@ -46,17 +46,17 @@ pub step-kept : (b : List ℕ) (x : Replayed) (ready : ReadyWord) (task : ℕ) (
 step-kept b x ready task memory e t q k = rw (q, t, e) (undone-stays (x .run) b (x .memory) (taskNext b x) k .after)
 
 -- one pass of the script's loop, and of the replay's, as the code does it
-pub access-turn : (script : List ℕ) (i : ℕ) (start y : Scripted) (task object : ℕ) (a : Accessed) (memory out : List ℕ) (word digest : ℕ) →
-    let o = accessOf (y .state) task object (getD script (4 * i + 2) 0) (getD script (4 * i + 3) 0) (y .memory) (y .out) in
-    y ≡ accessesTo script i start → task ≡ getD script (4 * i) 0 → object ≡ getD script (4 * i + 1) 0
+pub access-turn : (script : List ℕ) (i : ℕ) (start y : Scripted) (task object field : ℕ) (a : Accessed) (memory out : List ℕ) (word digest : ℕ) →
+    let o = accessOf (y .state) task object field (getD script (5 * i + 3) 0) (getD script (5 * i + 4) 0) (y .memory) (y .out) in
+    y ≡ accessesTo script i start → task ≡ getD script (5 * i) 0 → object ≡ getD script (5 * i + 1) 0 → field ≡ getD script (5 * i + 2) 0
     → a ≡ o .answer → memory ≡ o .memory → out ≡ o .out
     → word ≡ accessWord (a .number) (a .value) (a .row) (a .class) (a .written) → digest ≡ mixedIn (y .digest) word
     → _≡_ {A = Scripted} (record { state = a .state; memory = memory; out = out; digest = digest }) (accessesTo script (i + 1) start)
-access-turn script i start y task object a memory out word digest e t u p q r w d = rw (d, w, q, r, p, t, u) (access-more script i start y e)
+access-turn script i start y task object field a memory out word digest e t u v p q r w d = rw (d, w, q, r, p, t, u, v) (access-more script i start y e)
 
 pub step-turn : (b : List ℕ) (x : Replayed) (ready : ReadyWord) (task : ℕ) (a : Stepped) (memory : List ℕ) (word digest : ℕ) →
     let o = stepOf (x .run) b (x .memory) task in
     ready ≡ readyOf (x .run) b → task ≡ lowestReady (ready .word) → a ≡ o .answer → memory ≡ o .memory
-    → word ≡ stepWord task (a .kind) (a .object) (a .value) (a .access) → digest ≡ mixedIn (x .digest) word
+    → word ≡ stepWord task (a .kind) (a .object) (a .field) (a .value) (a .access) → digest ≡ mixedIn (x .digest) word
     → record { run = a .run; memory = memory; digest = digest } ≡ stepAt b x
 step-turn b x ready task a memory word digest e t p q w d = rw (d, w, q, p, t, e)

@@ -1,5 +1,5 @@
--- The table row by row (document 01, "Transition table"): the access comes after every earlier one it conflicts with, and its object
--- stays covered. The other objects are in Moves.
+-- The table row by row (document 01, "Transition table"): the access comes after every earlier one it conflicts with, and its cell
+-- stays covered. The other cells are in Moves.
 use mathlib.Core.Bool.{Bool, true, false}
 use mathlib.Core.List.{_∷_, List·Memᴰ, List·Memᴰ·head, List·Memᴰ·tail}
 use mathlib.Core.Path.{_≡_, refl}
@@ -27,22 +27,22 @@ use Rattle.tracker.specs.declared.Locality.the-variants.{WriteExclusive}
 use Rattle.tracker.specs.declared.Row.{Row}
 use Rattle.tracker.specs.declared.State.{State}
 
--- what an access to an object conflicts with: a write with every access to it, a read with its writes
+-- what an access to a cell conflicts with: a write with every access to it, a read with its writes
 abbrev pub conflicting : Bool → ℕ → Act → Bool
-conflicting true object = touches object
-conflicting false object = writes object
+conflicting true cell = touches cell
+conflicting false cell = writes cell
 
-follows-any : {e : Entry} {h : History} (write : Bool) (object : ℕ) → Follows e h (touches object) → Follows e h (conflicting write object)
-follows-any true object f = f
-follows-any false object f = follows-fewer (writes-touches object) f
+follows-any : {e : Entry} {h : History} (write : Bool) (cell : ℕ) → Follows e h (touches cell) → Follows e h (conflicting write cell)
+follows-any true cell f = f
+follows-any false cell f = follows-fewer (writes-touches cell) f
 
--- what is proved for each row; `l` is the object's new state
-pub record RowKeeps (e : Entry) (h : History) (s after : State) (object : ℕ) (write : Bool) (l : Locality) : Type 0 where
-  pub follows : Follows e h (conflicting write object)
+-- what is proved for each row; `l` is the cell's new state
+pub record RowKeeps (e : Entry) (h : History) (s after : State) (cell : ℕ) (write : Bool) (l : Locality) : Type 0 where
+  pub follows : Follows e h (conflicting write cell)
   pub moves : Moves e h s after
-  pub covered : Covered (e ∷ h) after object l
+  pub covered : Covered (e ∷ h) after cell l
 
-module _ (e : Entry) (h : History) (s after : State) (object : ℕ) (i : Invariant s h) (low : e .task < s .tasks) where
+module _ (e : Entry) (h : History) (s after : State) (cell : ℕ) (i : Invariant s h) (low : e .task < s .tasks) where
   -- Done before the access
   number : doneOf s (e .task) ≡ count (e .task) h
   number = i .counts (e .task)
@@ -50,30 +50,30 @@ module _ (e : Entry) (h : History) (s after : State) (object : ℕ) (i : Invaria
   awaits-mine : Awaits e h (doneAt s (e .task))
   awaits-mine = awaits-own e h (doneAt s (e .task)) refl (omega (arith, number))
 
-  -- afterwards the accessing task holds the object alone, for writing: rows 1, 4, 7, 9 and 10
-  to-writer : (write : Bool) → Leaves s (e .task) (unchanged s (e .task)) after → Follows e h (touches object)
-      → RowKeeps e h s after object write (WriteExclusive (e .task))
+  -- afterwards the accessing task holds the cell alone, for writing: rows 1, 4, 7, 9 and 10
+  to-writer : (write : Bool) → Leaves s (e .task) (unchanged s (e .task)) after → Follows e h (touches cell)
+      → RowKeeps e h s after cell write (WriteExclusive (e .task))
   to-writer write k f =
       let m : Moves e h s after = plain-moves k number in
-      record { follows = follows-any write object f; moves = m; covered = write-exclusive (done-covers m f) }
+      record { follows = follows-any write cell f; moves = m; covered = write-exclusive (done-covers m f) }
 
   -- row 10: the entry is ordered after everything that every task has done, so it comes after every entry
-  follows-every : ((task : ℕ) → task < s .tasks → Awaits e h (doneAt s task)) → Follows e h (touches object)
+  follows-every : ((task : ℕ) → task < s .tasks → Awaits e h (doneAt s task)) → Follows e h (touches cell)
   follows-every awaits = record {
     has = λ {d} {f} {k} closed inside a t. omega (arith, awaits (f .task) (i .tasks-low a) .reached closed inside, i .counts (f .task), at-lt (f .task) a refl);
   }
 
-  -- From what the object's state covers, what the row leaves, and that the access is ordered after every ordering of the row.
-  pub row-keeps : {l : Locality} {write : Bool} {row : Row} → View (e .task) (seenOf s (e .task)) l write row → Covered h s object l
+  -- From what the cell's state covers, what the row leaves, and that the access is ordered after every ordering of the row.
+  pub row-keeps : {l : Locality} {write : Bool} {row : Row} → View (e .task) (seenOf s (e .task)) l write row → Covered h s cell l
       → Leaves s (e .task) (effectOf row s (e .task) l) after → ((p : Position) → List·Memᴰ p (orderingsOf row s l) → Awaits e h p)
-      → (write ≡ false → writes object (e .act) ≡ false) → RowKeeps e h s after object write (localityAfter row s (e .task) l)
+      → (write ≡ false → writes cell (e .act) ≡ false) → RowKeeps e h s after cell write (localityAfter row s (e .task) l)
   unfolding orderingsOf localityAfter effectOf
   row-keeps (one write) (write-exclusive all) k awaits reads = to-writer write k (follows-covered awaits-mine all)
   row-keeps two (read-exclusive took all) k awaits reads =
       let m : Moves e h s after = plain-moves k number in
-      let f : Follows e h (touches object) = follows-covered awaits-mine all in
+      let f : Follows e h (touches cell) = follows-covered awaits-mine all in
       record {
-        follows = follows-any false object f;
+        follows = follows-any false cell f;
         moves = m;
         covered = read-exclusive (covers-more e (tookAt after (e .task)) (reads refl) refl (m .took (e .task)) took) (done-covers m f);
       }
@@ -82,12 +82,12 @@ module _ (e : Entry) (h : History) (s after : State) (object : ℕ) (i : Invaria
       record {
         follows = follows-covered awaits-mine (seen (e .task) low seen-high);
         moves = m;
-        covered = shared-stays m object (reads refl) (read-shared last seen);
+        covered = shared-stays m cell (reads refl) (read-shared last seen);
       }
   row-keeps four (read-exclusive took all) k awaits reads = to-writer true k (follows-covered awaits-mine all)
   row-keeps (five holder other) (read-exclusive took all) k awaits reads =
       let awaits-last : Awaits e h (s .last) = awaits (s .last) (List·Memᴰ·tail (List·Memᴰ·head refl)) in
-      let f : Follows e h (writes object) = follows-covered (awaits (tookAt s holder) (List·Memᴰ·head refl)) took in
+      let f : Follows e h (writes cell) = follows-covered (awaits (tookAt s holder) (List·Memᴰ·head refl)) took in
       let own : after .last .task ≡ e .task = rw (k .last) in
       let newer : count (e .task) h < after .last .number = rw (k .last) (omega (arith, number)) in
       let m : Moves e h s after = moves k number (omega arith) (seen-moves refl awaits-last) (last-moves own newer awaits-last) in
@@ -105,16 +105,16 @@ module _ (e : Entry) (h : History) (s after : State) (object : ℕ) (i : Invaria
       record {
         follows = follows-covered awaits-last last;
         moves = m;
-        covered = shared-stays m object (reads refl) (read-shared last seen);
+        covered = shared-stays m cell (reads refl) (read-shared last seen);
       }
   row-keeps (seven holder other) (write-exclusive all) k awaits reads = to-writer true k (follows-covered (awaits (doneAt s holder) (List·Memᴰ·head refl)) all)
   row-keeps (eight holder other) (write-exclusive all) k awaits reads =
-      let f : Follows e h (touches object) = follows-covered (awaits (doneAt s holder) (List·Memᴰ·head refl)) all in
+      let f : Follows e h (touches cell) = follows-covered (awaits (doneAt s holder) (List·Memᴰ·head refl)) all in
       let m : Moves e h s after = moves k number (omega (arith, i .sound .task (e .task) low .took-low)) (seen-stays (k .seen)) (last-stays (k .last)) in
       record {
-        follows = follows-any false object f;
+        follows = follows-any false cell f;
         moves = m;
-        covered = read-exclusive (covers-own (tookAt after (e .task)) refl (omega (arith, number, k .took)) (follows-any false object f)) (done-covers m f);
+        covered = read-exclusive (covers-own (tookAt after (e .task)) refl (omega (arith, number, k .took)) (follows-any false cell f)) (done-covers m f);
       }
   row-keeps (nine holder other) (read-exclusive took all) k awaits reads = to-writer true k (follows-covered (awaits (doneAt s holder) (List·Memᴰ·head refl)) all)
   row-keeps (ten share) c k awaits reads = to-writer true k (follows-every (λ task task-low. awaits (doneAt s task) (every-has (s .done) (s .tasks) task task-low)))

@@ -1,5 +1,5 @@
 -- What a row leaves in Done, Seen, Took and Last (document 01, "other effects"), as one record of equations; and when such a change keeps
--- other objects covered.
+-- other cells covered.
 use mathlib.Core.Bool.{Bool}
 use mathlib.Core.Path.{_≡_}
 use Prim.Native.Nat.{ℕ, _+_, _≤_, _<_}
@@ -26,17 +26,17 @@ pub record Leaves (s : State) (task : ℕ) (effect : Effect) (after : State) : T
   pub other-seen : (other : ℕ) → (other ≡ task → ⊥) → seenOf after other ≡ seenOf s other
   pub other-took : (other : ℕ) → (other ≡ task → ⊥) → tookOf after other ≡ tookOf s other
 
-pub next-leaves : (s : State) (task object : ℕ) (write : Bool) → Shaped s → task < maxTasks
-    → Leaves s task (effectOf (rowAt s task object write) s task (localityOf s object)) (stateAfter s task object write)
-next-leaves s task object write shaped low = record {
-  tasks = next-tasks s task object write;
-  done = next-done s task object write shaped low;
-  seen = next-seen s task object write shaped low;
-  took = next-took s task object write shaped low;
-  last = next-last s task object write;
-  other-done = other-done s task object write;
-  other-seen = other-seen s task object write;
-  other-took = other-took s task object write;
+pub next-leaves : (s : State) (task cell : ℕ) (write : Bool) → Shaped s → task < maxTasks
+    → Leaves s task (effectOf (rowAt s task cell write) s task (localityOf s cell)) (stateAfter s task cell write)
+next-leaves s task cell write shaped low = record {
+  tasks = next-tasks s task cell write;
+  done = next-done s task cell write shaped low;
+  seen = next-seen s task cell write shaped low;
+  took = next-took s task cell write shaped low;
+  last = next-last s task cell write;
+  other-done = other-done s task cell write;
+  other-seen = other-seen s task cell write;
+  other-took = other-took s task cell write;
 }
 
 module _ {e : Entry} {h : History} {s after : State} {effect : Effect} (k : Leaves s (e .task) effect after) (number : doneOf s (e .task) ≡ count (e .task) h) where

@@ -8,13 +8,14 @@ use borrow.Author.Tests.{lt-ltb, le-leb, ltb-true, leb-true, eq-eqb, eqb-true, e
 use lib.Dec.{eqb, leb, ltb}
 use lib.ListN.{getD}
 use Rattle.codec.specs.declared.Position.{Position}
-use Rattle.tracker.specs.State.{doneOf, seenOf, tookOf, localityOf, holderOf, shareOf}
-use Rattle.codec.specs.Limit.{isWithin, maxTasks, maxObjects, maxAccesses}
+use Rattle.tracker.specs.State.{doneOf, seenOf, tookOf, cellCount, localityOf, holderOf, shareOf}
+use Rattle.codec.specs.Limit.{isWithin, maxTasks, maxObjects, maxFields, maxCells, maxAccesses}
+use Rattle.codec.specs.Laws.Cell.{cells-few}
 use Rattle.codec.specs.Laws.Limit.{within-facts, within-test}
 use Rattle.tracker.specs.Range.{allBelow}
 use Rattle.tracker.specs.Laws.Range.{all-at, all-from}
 use Rattle.tracker.specs.Sum.{sumOf}
-use Rattle.tracker.specs.Sound.{lastSound, taskSound, taskSoundAt, tasksSound, objectSound, objectSoundAt, soundOf}
+use Rattle.tracker.specs.Sound.{lastSound, taskSound, taskSoundAt, tasksSound, cellSound, cellSoundAt, soundOf}
 use Rattle.tracker.specs.declared.Locality.{Locality}
 use Rattle.tracker.specs.declared.Locality.the-variants.{WriteExclusive, ReadExclusive, ReadShared}
 use Rattle.tracker.specs.declared.State.{State}
@@ -29,7 +30,7 @@ pub record TaskBounds (done seen took shares : ℕ) : Type 0 where
   pub seen-low : seen ≤ shares
   pub took-low : took ≤ done
 
-pub record ObjectBounds (l : Locality) (tasks shares : ℕ) : Type 0 where
+pub record CellBounds (l : Locality) (tasks shares : ℕ) : Type 0 where
   pub holder-low : holderOf l < tasks
   pub share-low : shareOf l ≤ shares
   pub share-some : (share : ℕ) → l ≡ ReadShared share → 1 ≤ share
@@ -39,10 +40,11 @@ pub record Sound (s : State) : Type 0 where
   pub tasks-fit : s .tasks ≤ maxTasks
   pub some-object : 1 ≤ s .objects
   pub objects-fit : s .objects ≤ maxObjects
+  pub fields-fit : s .fields ≤ maxFields
   pub last : LastBounds (s .last) (s .tasks) (s .shares) (s .done)
   pub counted : s .shares ≤ sumOf (s .done) (s .tasks)
   pub task : (i : ℕ) → i < s .tasks → TaskBounds (doneOf s i) (seenOf s i) (tookOf s i) (s .shares)
-  pub object : (o : ℕ) → o < s .objects → ObjectBounds (localityOf s o) (s .tasks) (s .shares)
+  pub cell : (c : ℕ) → c < cellCount s → CellBounds (localityOf s c) (s .tasks) (s .shares)
 
 pub task-facts : (done seen took shares : ℕ) → taskSound done seen took shares ≡ true → TaskBounds done seen took shares
 unfolding taskSound
@@ -91,53 +93,55 @@ last-test p tasks shares done f = cases (eqb (p .number) 0) refl
         let h = eqb-false (p .number) 0 k in
         rw (lt-ltb (p .task) tasks (f .task-low (omega (arith, h))), le-leb (p .number) (getD done (p .task) 0) (f .reached))
 
--- an object within bounds, by its state
+-- a cell within bounds, by its state
 module _ (tasks shares : ℕ) where
-  pub writer-bounds : (holder : ℕ) → holder < tasks → ObjectBounds (WriteExclusive holder) tasks shares
+  pub writer-bounds : (holder : ℕ) → holder < tasks → CellBounds (WriteExclusive holder) tasks shares
   writer-bounds holder h = record {
     holder-low = h;
     share-low = omega arith;
     share-some = λ c k. let z : _≡_ {A = ℕ} 0 1 = cc in omega arith;
   }
 
-  pub reader-bounds : (holder : ℕ) → holder < tasks → ObjectBounds (ReadExclusive holder) tasks shares
+  pub reader-bounds : (holder : ℕ) → holder < tasks → CellBounds (ReadExclusive holder) tasks shares
   reader-bounds holder h = record {
     holder-low = h;
     share-low = omega arith;
     share-some = λ c k. let z : _≡_ {A = ℕ} 0 1 = cc in omega arith;
   }
 
-  pub shared-bounds : (share : ℕ) → 1 ≤ tasks → 1 ≤ share → share ≤ shares → ObjectBounds (ReadShared share) tasks shares
+  pub shared-bounds : (share : ℕ) → 1 ≤ tasks → 1 ≤ share → share ≤ shares → CellBounds (ReadShared share) tasks shares
   shared-bounds share t h k = record {
     holder-low = t;
     share-low = k;
     share-some = λ c e. let q : share ≡ c = cc in omega arith;
   }
 
-object-facts : (l : Locality) (tasks shares : ℕ) → 1 ≤ tasks → objectSound l tasks shares ≡ true → ObjectBounds l tasks shares
-unfolding objectSound
-object-facts (WriteExclusive holder) tasks shares h e = writer-bounds tasks shares holder (ltb-true holder tasks e)
-object-facts (ReadExclusive holder) tasks shares h e = reader-bounds tasks shares holder (ltb-true holder tasks e)
-object-facts (ReadShared share) tasks shares h e =
+cell-facts : (l : Locality) (tasks shares : ℕ) → 1 ≤ tasks → cellSound l tasks shares ≡ true → CellBounds l tasks shares
+unfolding cellSound
+cell-facts (WriteExclusive holder) tasks shares h e = writer-bounds tasks shares holder (ltb-true holder tasks e)
+cell-facts (ReadExclusive holder) tasks shares h e = reader-bounds tasks shares holder (ltb-true holder tasks e)
+cell-facts (ReadShared share) tasks shares h e =
     let b = within-facts 1 shares share e in shared-bounds tasks shares share h (b .0) (b .1)
 
-object-test : (l : Locality) (tasks shares : ℕ) → ObjectBounds l tasks shares → objectSound l tasks shares ≡ true
-unfolding objectSound
-object-test (WriteExclusive holder) tasks shares f = lt-ltb holder tasks (f .holder-low)
-object-test (ReadExclusive holder) tasks shares f = lt-ltb holder tasks (f .holder-low)
-object-test (ReadShared share) tasks shares f = within-test 1 shares share (f .share-some share refl) (f .share-low)
+cell-test : (l : Locality) (tasks shares : ℕ) → CellBounds l tasks shares → cellSound l tasks shares ≡ true
+unfolding cellSound
+cell-test (WriteExclusive holder) tasks shares f = lt-ltb holder tasks (f .holder-low)
+cell-test (ReadExclusive holder) tasks shares f = lt-ltb holder tasks (f .holder-low)
+cell-test (ReadShared share) tasks shares f = within-test 1 shares share (f .share-some share refl) (f .share-low)
 
 pub sound-facts : (s : State) → soundOf s ≡ true → Sound s
 unfolding soundOf tasksSound
 sound-facts s e =
     let ranges = isWithin 1 maxTasks (s .tasks) && isWithin 1 maxObjects (s .objects) in
+    let width = leb (s .fields) maxFields in
     let last = lastSound (s .last) (s .tasks) (s .shares) (s .done) in
     let every = allBelow (taskSoundAt (s .done) (s .seen) (s .took) (s .shares)) (s .tasks) in
     let counted = leb (s .shares) (sumOf (s .done) (s .tasks)) in
-    let a = and-eq-true-iff (ranges && last && (every && counted)) (allBelow (objectSoundAt s) (s .objects)) .0 e in
-    let b = and-eq-true-iff (ranges && last) (every && counted) .0 (a .0) in
-    let c = and-eq-true-iff ranges last .0 (b .0) in
-    let d = and-eq-true-iff (isWithin 1 maxTasks (s .tasks)) (isWithin 1 maxObjects (s .objects)) .0 (c .0) in
+    let a = and-eq-true-iff (ranges && width && last && (every && counted)) (allBelow (cellSoundAt s) (cellCount s)) .0 e in
+    let b = and-eq-true-iff (ranges && width && last) (every && counted) .0 (a .0) in
+    let c = and-eq-true-iff (ranges && width) last .0 (b .0) in
+    let w = and-eq-true-iff ranges width .0 (c .0) in
+    let d = and-eq-true-iff (isWithin 1 maxTasks (s .tasks)) (isWithin 1 maxObjects (s .objects)) .0 (w .0) in
     let t = and-eq-true-iff every counted .0 (b .1) in
     let tasks = within-facts 1 maxTasks (s .tasks) (d .0) in
     let objects = within-facts 1 maxObjects (s .objects) (d .1) in
@@ -146,10 +150,11 @@ sound-facts s e =
       tasks-fit = tasks .1;
       some-object = objects .0;
       objects-fit = objects .1;
+      fields-fit = leb-true (s .fields) maxFields (w .1);
       last = last-facts (s .last) (s .tasks) (s .shares) (s .done) (c .1);
       counted = leb-true (s .shares) (sumOf (s .done) (s .tasks)) (t .1);
       task = λ i h. task-facts _ _ _ _ (all-at _ (s .tasks) (t .0) i h);
-      object = λ o h. object-facts _ _ _ (tasks .0) (all-at _ (s .objects) (a .1) o h);
+      cell = λ c h. cell-facts _ _ _ (tasks .0) (all-at _ (cellCount s) (a .1) c h);
     }
 
 pub sound-test : (s : State) → Sound s → soundOf s ≡ true
@@ -158,8 +163,13 @@ sound-test s f =
     rw (
       within-test 1 maxTasks (s .tasks) (f .some-task) (f .tasks-fit),
       within-test 1 maxObjects (s .objects) (f .some-object) (f .objects-fit),
+      le-leb (s .fields) maxFields (f .fields-fit),
       last-test (s .last) (s .tasks) (s .shares) (s .done) (f .last),
       all-from (taskSoundAt (s .done) (s .seen) (s .took) (s .shares)) (s .tasks) (λ (i : ℕ) (h : i < s .tasks). task-test _ _ _ _ (f .task i h)),
       le-leb (s .shares) (sumOf (s .done) (s .tasks)) (f .counted),
-      all-from (objectSoundAt s) (s .objects) (λ (o : ℕ) (h : o < s .objects). object-test _ _ _ (f .object o h)),
+      all-from (cellSoundAt s) (cellCount s) (λ (c : ℕ) (h : c < cellCount s). cell-test _ _ _ (f .cell c h)),
     )
+
+-- a sound state has no more cells than its table
+pub cells-fit : (s : State) → Sound s → cellCount s ≤ maxCells
+cells-fit s f = cells-few (s .fields) (s .objects) (f .fields-fit) (f .objects-fit)

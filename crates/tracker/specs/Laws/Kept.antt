@@ -9,7 +9,7 @@ use lib.Dec.{eqb}
 use lib.ListN.{length, getD, set}
 use lib.Seq.{getD-set-same, getD-set-other}
 use Rattle.codec.specs.Limit.{maxAccesses}
-use Rattle.tracker.specs.State.{doneOf, seenOf, localityOf, owned}
+use Rattle.tracker.specs.State.{doneOf, seenOf, cellCount, localityOf, owned}
 use Rattle.tracker.specs.Laws.State.{Shaped}
 use Rattle.tracker.specs.Row.{rowAt}
 use Rattle.tracker.specs.Laws.View.{View, one, two, three, four, five, six, seven, eight, nine, ten, view}
@@ -18,24 +18,24 @@ use Rattle.tracker.specs.Laws.Counters.{countersOf}
 use Rattle.tracker.specs.Laws.Plan.{Admits}
 use Rattle.tracker.specs.Laws.Sum.{sum-rises, sum-bound}
 use Rattle.tracker.specs.Sound.{soundOf}
-use Rattle.tracker.specs.Laws.Facts.{Sound, LastBounds, TaskBounds, ObjectBounds, writer-bounds, reader-bounds, shared-bounds, sound-facts, sound-test}
+use Rattle.tracker.specs.Laws.Facts.{Sound, LastBounds, TaskBounds, CellBounds, writer-bounds, reader-bounds, shared-bounds, sound-facts, sound-test, cells-fit}
 use Rattle.tracker.specs.declared.Locality.{Locality}
 use Rattle.tracker.specs.declared.Locality.the-variants.{WriteExclusive}
-use Rattle.tracker.specs.declared.ObjectRecord.{ObjectRecord}
+use Rattle.tracker.specs.declared.CellRecord.{CellRecord}
 use Rattle.tracker.specs.declared.Row.{Row}
 use Rattle.tracker.specs.declared.State.{State}
 
 -- what the number table requires of an access besides a sound state: 5, 6 and 8
-pub record Accepts (s : State) (task object : ℕ) : Type 0 where
+pub record Accepts (s : State) (task cell : ℕ) : Type 0 where
   pub task-low : task < s .tasks
-  pub object-low : object < s .objects
+  pub cell-low : cell < cellCount s
   pub more : doneOf s task < maxAccesses
 
 -- no index and no number of an accepted access is out of range
-pub sound-admits : (s : State) (task object : ℕ) → Sound s → Accepts s task object → Admits (countersOf s) (localityOf s object) task
-sound-admits s task object f a = record {
+pub sound-admits : (s : State) (task cell : ℕ) → Sound s → Accepts s task cell → Admits (countersOf s) (localityOf s cell) task
+sound-admits s task cell f a = record {
   task-low = omega (arith, a .task-low, f .tasks-fit);
-  holder-low = omega (arith, f .object object (a .object-low) .holder-low, f .tasks-fit);
+  holder-low = omega (arith, f .cell cell (a .cell-low) .holder-low, f .tasks-fit);
   more = a .more;
   share = omega (arith, f .counted, f .tasks-fit, sum-bound (s .done) (s .tasks) (λ (i : ℕ) (h : i < s .tasks). f .task i h .done-fits));
 }
@@ -49,9 +49,9 @@ set-cases P l i j a d h same other = cases (eqb j i) refl
     cases true e = let k : j ≡ i = eqb-true j i e in rw (k, getD-set-same l i a d h) (same k)
     cases false e = rw (getD-set-other l i j a d (eqb-false j i e)) (other (eqb-false j i e))
 
--- with a larger G an object stays within its bounds
-object-rises : (l : Locality) (tasks g k : ℕ) → g ≤ k → ObjectBounds l tasks g → ObjectBounds l tasks k
-object-rises l tasks g k h f = record {
+-- with a larger G a cell stays within its bounds
+cell-rises : (l : Locality) (tasks g k : ℕ) → g ≤ k → CellBounds l tasks g → CellBounds l tasks k
+cell-rises l tasks g k h f = record {
   holder-low = f .holder-low;
   share-low = omega (arith, f .share-low);
   share-some = f .share-some;
@@ -64,7 +64,7 @@ record Keeps (s : State) (task : ℕ) (l : Locality) (e : Effect) : Type 0 where
   pub seen : e .seen ≤ e .shares
   pub took : e .took ≤ numberNow s task
   pub last : LastBounds (e .last) (s .tasks) (e .shares) (set (s .done) task (numberNow s task))
-  pub object : ObjectBounds l (s .tasks) (e .shares)
+  pub cell : CellBounds l (s .tasks) (e .shares)
 
 module _ (s : State) (task : ℕ) (shaped : Shaped s) (sound : Sound s) (low : task < s .tasks) where
   in-done : task < length (s .done)
@@ -105,20 +105,21 @@ module _ (s : State) (task : ℕ) (shaped : Shaped s) (sound : Sound s) (low : t
             took-low = sound .task i h .took-low;
           }
 
-  stepped-sound : (object : ℕ) (l : Locality) (e : Effect) → object < s .objects → doneOf s task < maxAccesses → Keeps s task l e →
-      Sound (stepped s task object l e)
-  stepped-sound object l e h more k = record {
+  stepped-sound : (cell : ℕ) (l : Locality) (e : Effect) → cell < cellCount s → doneOf s task < maxAccesses → Keeps s task l e →
+      Sound (stepped s task cell l e)
+  stepped-sound cell l e h more k = record {
     some-task = sound .some-task;
     tasks-fit = sound .tasks-fit;
     some-object = sound .some-object;
     objects-fit = sound .objects-fit;
+    fields-fit = sound .fields-fit;
     last = k .last;
     counted = rw (sum-rises (s .done) task (s .tasks) in-done low) (omega (arith, sound .counted, k .by-one));
     task = task-after e l more k;
-    object = λ o g.
-        set-cases (λ (r : ObjectRecord). ObjectBounds (r .locality) (s .tasks) (e .shares)) (s .records) object o (record { locality = l }) (owned 0)
-        (omega (arith, shaped .records, sound .objects-fit))
-        (λ q. k .object) (λ n. object-rises (localityOf s o) (s .tasks) (s .shares) (e .shares) (k .rises) (sound .object o g));
+    cell = λ o g.
+        set-cases (λ (r : CellRecord). CellBounds (r .locality) (s .tasks) (e .shares)) (s .cells) cell o (record { locality = l }) (owned 0)
+        (omega (arith, shaped .cells, cells-fit s sound))
+        (λ q. k .cell) (λ n. cell-rises (localityOf s o) (s .tasks) (s .shares) (e .shares) (k .rises) (sound .cell o g));
   }
 
   -- rows that leave G, Last, Seen and Took unchanged
@@ -129,20 +130,20 @@ module _ (s : State) (task : ℕ) (shaped : Shaped s) (sound : Sound s) (low : t
     reached = omega (arith, sound .last .reached, done-rises (s .last .task));
   }
 
-  plain-keeps : (l : Locality) → ObjectBounds l (s .tasks) (s .shares) → Keeps s task l (unchanged s task)
+  plain-keeps : (l : Locality) → CellBounds l (s .tasks) (s .shares) → Keeps s task l (unchanged s task)
   plain-keeps l b = record {
     rises = omega arith;
     by-one = omega arith;
     seen = sound .task task low .seen-low;
     took = omega (arith, sound .task task low .took-low);
     last = last-stays;
-    object = b;
+    cell = b;
   }
 
   mine : Keeps s task (WriteExclusive task) (unchanged s task)
   mine = plain-keeps (WriteExclusive task) (writer-bounds (s .tasks) (s .shares) task low)
 
-  row-keeps : (l : Locality) (write : Bool) (row : Row) → ObjectBounds l (s .tasks) (s .shares) → View task (seenOf s task) l write row →
+  row-keeps : (l : Locality) (write : Bool) (row : Row) → CellBounds l (s .tasks) (s .shares) → View task (seenOf s task) l write row →
       Keeps s task (localityAfter row s task l) (effectOf row s task l)
   unfolding localityAfter effectOf
   row-keeps l write row b (one w) = plain-keeps _ b
@@ -159,7 +160,7 @@ module _ (s : State) (task : ℕ) (shaped : Shaped s) (sound : Sound s) (low : t
       task-low = λ z. low;
       reached = rw (getD-set-same (s .done) task (numberNow s task) 0 in-done) (omega arith);
     };
-    object = shared-bounds (s .tasks) (s .shares + 1) (s .shares + 1) (sound .some-task) (omega arith) (omega arith);
+    cell = shared-bounds (s .tasks) (s .shares + 1) (s .shares + 1) (sound .some-task) (omega arith) (omega arith);
   }
   row-keeps l write row b (six share h) = record {
     rises = omega arith;
@@ -167,7 +168,7 @@ module _ (s : State) (task : ℕ) (shaped : Shaped s) (sound : Sound s) (low : t
     seen = omega arith;
     took = omega (arith, sound .task task low .took-low);
     last = last-stays;
-    object = b;
+    cell = b;
   }
   row-keeps l write row b (seven holder n) = mine
   row-keeps l write row b (eight holder n) = record {
@@ -176,19 +177,19 @@ module _ (s : State) (task : ℕ) (shaped : Shaped s) (sound : Sound s) (low : t
     seen = sound .task task low .seen-low;
     took = omega arith;
     last = last-stays;
-    object = reader-bounds (s .tasks) (s .shares) task low;
+    cell = reader-bounds (s .tasks) (s .shares) task low;
   }
   row-keeps l write row b (nine holder n) = mine
   row-keeps l write row b (ten share) = mine
 
 -- a sound state stays sound
-pub next-facts : (s : State) (task object : ℕ) (write : Bool) → Shaped s → Sound s → Accepts s task object → Sound (stateAfter s task object write)
+pub next-facts : (s : State) (task cell : ℕ) (write : Bool) → Shaped s → Sound s → Accepts s task cell → Sound (stateAfter s task cell write)
 unfolding stateAfter
-next-facts s task object write shaped f a =
-    stepped-sound s task shaped f (a .task-low) object _ _ (a .object-low) (a .more)
-    (row-keeps s task shaped f (a .task-low) (localityOf s object) write (rowAt s task object write) (f .object object (a .object-low))
-    (view (localityOf s object) task (seenOf s task) write))
+next-facts s task cell write shaped f a =
+    stepped-sound s task shaped f (a .task-low) cell _ _ (a .cell-low) (a .more)
+    (row-keeps s task shaped f (a .task-low) (localityOf s cell) write (rowAt s task cell write) (f .cell cell (a .cell-low))
+    (view (localityOf s cell) task (seenOf s task) write))
 
-pub next-sound : (s : State) (task object : ℕ) (write : Bool) → Shaped s → soundOf s ≡ true → Accepts s task object →
-    soundOf (stateAfter s task object write) ≡ true
-next-sound s task object write shaped e a = sound-test _ (next-facts s task object write shaped (sound-facts s e) a)
+pub next-sound : (s : State) (task cell : ℕ) (write : Bool) → Shaped s → soundOf s ≡ true → Accepts s task cell →
+    soundOf (stateAfter s task cell write) ≡ true
+next-sound s task cell write shaped e a = sound-test _ (next-facts s task cell write shaped (sound-facts s e) a)

@@ -1,5 +1,5 @@
--- What an access may do to Done, Seen, Took and Last (document 01, "other effects") so that other objects stay covered. It is stated for
--- any entry and any two states, so it also applies to an entry that touches no object.
+-- What an access may do to Done, Seen, Took and Last (document 01, "other effects") so that other cells stay covered. It is stated for
+-- any entry and any two states, so it also applies to an entry that touches no cell.
 use mathlib.Core.Path.{_≡_, refl}
 use mathlib.Core.List.{_∷_}
 use mathlib.Core.Bool.{Bool, false}
@@ -39,31 +39,31 @@ pub done-covers : {e : Entry} {h : History} {s after : State} {test : Act → Bo
     → Covers (e ∷ h) (doneAt after (e .task)) test
 done-covers {e} {after} m f = covers-own (doneAt after (e .task)) refl (m .done-own) f
 
-module _ {e : Entry} {h : History} {s after : State} (m : Moves e h s after) (object : ℕ) where
-  -- a shared object that is not written stays covered, though it may be read
-  pub shared-stays : {share : ℕ} → writes object (e .act) ≡ false → Covered h s object (ReadShared share) → Covered (e ∷ h) after object (ReadShared share)
+module _ {e : Entry} {h : History} {s after : State} (m : Moves e h s after) (cell : ℕ) where
+  -- a shared cell that is not written stays covered, though it may be read
+  pub shared-stays : {share : ℕ} → writes cell (e .act) ≡ false → Covered h s cell (ReadShared share) → Covered (e ∷ h) after cell (ReadShared share)
   shared-stays {share} w (read-shared last seen) = read-shared last-after seen-after
     where
-      follows : Awaits e h (s .last) → Follows e h (writes object)
+      follows : Awaits e h (s .last) → Follows e h (writes cell)
       follows awaits = follows-covered awaits last
 
-      last-after : Covers (e ∷ h) (after .last) (writes object)
+      last-after : Covers (e ∷ h) (after .last) (writes cell)
       last-after = elim (m .last) [
         | last-stays p ↦ rw p (covers-more e (s .last) w refl (omega arith) last)
         | last-moves own newer awaits ↦ covers-own (after .last) own newer (follows awaits)
       ]
 
-      seen-after : (task : ℕ) → task < after .tasks → share ≤ seenOf after task → Covers (e ∷ h) (doneAt after task) (writes object)
+      seen-after : (task : ℕ) → task < after .tasks → share ≤ seenOf after task → Covers (e ∷ h) (doneAt after task) (writes cell)
       seen-after task low high = elim (m .seen task) [
         | seen-stays p ↦ covers-more e (doneAt after task) w refl (m .done task) (seen task (rw (m .tasks) at low) (rw p at high))
         | seen-moves p awaits ↦ rw p (done-covers m (follows awaits))
       ]
 
-  -- an object that is not touched stays covered
-  pub untouched-stays : {l : Locality} → touches object (e .act) ≡ false → Covered h s object l → Covered (e ∷ h) after object l
+  -- a cell that is not touched stays covered
+  pub untouched-stays : {l : Locality} → touches cell (e .act) ≡ false → Covered h s cell l → Covered (e ∷ h) after cell l
   untouched-stays t (write-exclusive {holder} all) = write-exclusive (covers-more e (doneAt after holder) t refl (m .done holder) all)
   untouched-stays t (read-exclusive {holder} took all) =
       read-exclusive
-      (covers-more e (tookAt after holder) (untouched-unwritten object (e .act) t) refl (m .took holder) took)
+      (covers-more e (tookAt after holder) (untouched-unwritten cell (e .act) t) refl (m .took holder) took)
       (covers-more e (doneAt after holder) t refl (m .done holder) all)
-  untouched-stays t (read-shared last seen) = shared-stays (untouched-unwritten object (e .act) t) (read-shared last seen)
+  untouched-stays t (read-shared last seen) = shared-stays (untouched-unwritten cell (e .act) t) (read-shared last seen)

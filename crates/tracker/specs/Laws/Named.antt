@@ -6,7 +6,7 @@ use mathlib.Core.Path.{_≡_}
 use Prim.Native.Nat.{ℕ, _≤_, _<_}
 use native.Mathlib.Omega.{arith}
 use Rattle.codec.specs.declared.Position.{Position}
-use Rattle.tracker.specs.State.{doneOf, doneAt, tookAt, localityOf, holderOf}
+use Rattle.tracker.specs.State.{doneOf, doneAt, tookAt, cellCount, localityOf, holderOf}
 use Rattle.tracker.specs.Row.{rowAt}
 use Rattle.tracker.specs.Orderings.{orderingsOf, everyDone, writtenOf}
 use Rattle.tracker.specs.Laws.Written.{written-in, written-keeps, every-in, every-has}
@@ -59,19 +59,19 @@ module _ (s : State) (sound : Sound s) (l : Locality) (holder-low : holderOf l <
       record { task-low = λ h. b .0; reached = omega (arith, b .1) }
 
 -- each written ordering names an access made by another task below T
-pub written-names : (s : State) (task object : ℕ) (write : Bool) → Sound s → object < s .objects →
-    (p : Position) → List·Memᴰ p (writtenOf s task object write) → Names s task p
-written-names s task object write sound low p m =
-    let b = written-in task p (orderingsOf (rowAt s task object write) s (localityOf s object)) m in
-    let r = row-points s sound (localityOf s object) (sound .object object low .holder-low) (rowAt s task object write) p (b .0) in
+pub written-names : (s : State) (task cell : ℕ) (write : Bool) → Sound s → cell < cellCount s →
+    (p : Position) → List·Memᴰ p (writtenOf s task cell write) → Names s task p
+written-names s task cell write sound low p m =
+    let b = written-in task p (orderingsOf (rowAt s task cell write) s (localityOf s cell)) m in
+    let r = row-points s sound (localityOf s cell) (sound .cell cell low .holder-low) (rowAt s task cell write) p (b .0) in
     let some = b .1 .some in
     let h : 0 < p .number = omega (arith, some) in
     record { task-low = r .task-low h; other = b .1 .other; some = h; reached = r .reached }
 
 -- row 10 orders after each other task that has made an access
-pub ten-names : (s : State) (task object : ℕ) (write : Bool) (other : ℕ) → rowAt s task object write ≡ Ten →
-    other < s .tasks → (other ≡ task → ⊥) → 0 < doneOf s other → List·Memᴰ (doneAt s other) (writtenOf s task object write)
+pub ten-names : (s : State) (task cell : ℕ) (write : Bool) (other : ℕ) → rowAt s task cell write ≡ Ten →
+    other < s .tasks → (other ≡ task → ⊥) → 0 < doneOf s other → List·Memᴰ (doneAt s other) (writtenOf s task cell write)
 unfolding orderingsOf
-ten-names s task object write other e h n d =
+ten-names s task cell write other e h n d =
     rw e (written-keeps task (doneAt s other) (everyDone (s .done) (s .tasks)) record { some = λ z. omega arith; other = n }
     (every-has (s .done) (s .tasks) other h))

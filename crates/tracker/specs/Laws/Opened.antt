@@ -3,96 +3,129 @@ use mathlib.Core.Bool.{true}
 use mathlib.Core.List.{List}
 use mathlib.Core.Logic.{⊎-elim}
 use mathlib.Core.Path.{_≡_, refl, ap}
-use Prim.Native.Nat.{ℕ, zero, suc, _+_, _≤_, _<_}
-use native.Mathlib.Nat.{eq-or-lt-of-le, le-of-suc-le-suc}
+use Prim.Native.Nat.{ℕ, zero, suc, _+_, _/_, _≤_, _<_}
+use native.Mathlib.Nat.{eq-or-lt-of-le, le-of-suc-le-suc, div-lt-iff-lt-mul}
 use native.Mathlib.Numerals.{add-one}
 use native.Mathlib.Omega.{arith}
+use lib.Arith.{digits-div}
 use lib.ListN.{length, getD, set, replicate, length-set, length-replicate}
 use lib.Seq.{getD-set-same, getD-set-other}
 use Rattle.codec.specs.Laws.Zeros.{zeros-at}
-use Rattle.codec.specs.Limit.{maxTasks, maxObjects}
-use Rattle.tracker.specs.State.{owned, doneOf, localityOf}
+use Rattle.codec.specs.Cell.{widthOf, cellsOf, cellOf}
+use Rattle.codec.specs.Laws.Cell.{width-some, cell-below, cells-few}
+use Rattle.codec.specs.Limit.{maxTasks, maxObjects, maxFields, maxCells}
+use Rattle.tracker.specs.State.{owned, doneOf, cellCount, localityOf, holderOf}
 use Rattle.tracker.specs.Laws.State.{Shaped}
 use Rattle.tracker.specs.Sound.{soundOf}
 use Rattle.tracker.specs.Laws.Facts.{Sound, TaskBounds, writer-bounds, sound-test}
 use Rattle.tracker.specs.declared.Locality.the-variants.{WriteExclusive}
-use Rattle.tracker.specs.declared.ObjectRecord.{ObjectRecord}
-use Rattle.tracker.specs.Opened.{ownedRecords, openedState}
+use Rattle.tracker.specs.declared.CellRecord.{CellRecord}
+use Rattle.tracker.specs.declared.State.{State}
+use Rattle.tracker.specs.Opened.{ownerOf, ownedCells, openedState}
 
--- what the number table requires of an opening: 1, 2 and 4
-pub record Opens (tasks objects : ℕ) (owners : List ℕ) : Type 0 where
+-- what the number table requires of an opening: 1, 2, 20 and 4
+pub record Opens (tasks objects fields : ℕ) (owners : List ℕ) : Type 0 where
   pub some-task : 1 ≤ tasks
   pub tasks-fit : tasks ≤ maxTasks
   pub some-object : 1 ≤ objects
   pub objects-fit : objects ≤ maxObjects
+  pub fields-fit : fields ≤ maxFields
   pub owners-low : (object : ℕ) → object < objects → getD owners object 0 < tasks
 
-pub records-none : (owners : List ℕ) → ownedRecords owners 0 ≡ replicate maxObjects (owned 0)
-unfolding ownedRecords
-records-none owners = refl
+-- a state in which nothing has been done yet: each cell is held by one task, for writing
+pub record Fresh (s : State) : Type 0 where
+  pub shaped : Shaped s
+  pub sound : Sound s
+  pub none-done : (task : ℕ) → doneOf s task ≡ 0
+  pub held : (cell : ℕ) → cell < cellCount s → localityOf s cell ≡ WriteExclusive (holderOf (localityOf s cell))
 
-pub records-more : (owners : List ℕ) (n : ℕ) →
-    ownedRecords owners (n + 1) ≡ set (ownedRecords owners n) n (owned (getD owners n 0))
-unfolding ownedRecords
-records-more owners n = rw add-one
+module _ (owners : List ℕ) (fields : ℕ) where
+  pub cells-none : ownedCells owners fields 0 ≡ replicate maxCells (owned 0)
+  unfolding ownedCells
+  cells-none = refl
 
-records-length : (owners : List ℕ) (n : ℕ) → length (ownedRecords owners n) ≡ maxObjects
-unfolding ownedRecords
-records-length owners zero = length-replicate maxObjects (owned 0)
-records-length owners (suc n) = rw length-set (records-length owners n)
+  pub cells-more : (n : ℕ) → ownedCells owners fields (n + 1) ≡ set (ownedCells owners fields n) n (owned (ownerOf owners fields n))
+  unfolding ownedCells
+  cells-more n = rw add-one
 
-records-at : (owners : List ℕ) (n o : ℕ) → n ≤ maxObjects → o < n → getD (ownedRecords owners n) o (owned 0) ≡ owned (getD owners o 0)
-unfolding ownedRecords
-records-at owners zero o h k = absurd (let z : ⊥ = omega arith in z)
-records-at owners (suc n) o h k =
-    ⊎-elim
-    (λ (e : o ≡ n). rw e (getD-set-same (ownedRecords owners n) n (owned (getD owners n 0)) (owned 0) (omega (arith, records-length owners n))))
-    (λ (l : o < n). rw (getD-set-other (ownedRecords owners n) n o (owned (getD owners n 0)) (owned 0) (λ (e : o ≡ n). omega arith))
-    (records-at owners n o (omega arith) l))
-    (eq-or-lt-of-le (le-of-suc-le-suc k))
+  cells-length : (n : ℕ) → length (ownedCells owners fields n) ≡ maxCells
+  unfolding ownedCells
+  cells-length zero = length-replicate maxCells (owned 0)
+  cells-length (suc n) = rw length-set (cells-length n)
 
-pub opened-shaped : (tasks objects : ℕ) (owners : List ℕ) → Shaped (openedState tasks objects owners)
-unfolding openedState
-opened-shaped tasks objects owners = record {
-  records = records-length owners objects;
-  done = refl;
-  seen = refl;
-  took = refl;
-}
+  cells-at : (n c : ℕ) → n ≤ maxCells → c < n → getD (ownedCells owners fields n) c (owned 0) ≡ owned (ownerOf owners fields c)
+  unfolding ownedCells
+  cells-at zero c h k = absurd (let z : ⊥ = omega arith in z)
+  cells-at (suc n) c h k =
+      ⊎-elim
+      (λ (e : c ≡ n). rw e (getD-set-same (ownedCells owners fields n) n (owned (ownerOf owners fields n)) (owned 0) (omega (arith, cells-length n))))
+      (λ (l : c < n). rw (getD-set-other (ownedCells owners fields n) n c (owned (ownerOf owners fields n)) (owned 0) (λ (e : c ≡ n). omega arith))
+      (cells-at n c (omega arith) l))
+      (eq-or-lt-of-le (le-of-suc-le-suc k))
 
-pub opened-objects : (tasks objects : ℕ) (owners : List ℕ) → openedState tasks objects owners .objects ≡ objects
-unfolding openedState
-opened-objects tasks objects owners = refl
+-- the object of a cell
+pub object-below : (fields objects cell : ℕ) → cell < cellsOf fields objects → cell / widthOf fields < objects
+unfolding cellsOf
+object-below fields objects cell h = div-lt-iff-lt-mul (width-some fields) .1 h
 
--- no access has been made yet
-pub opened-done : (tasks objects : ℕ) (owners : List ℕ) (task : ℕ) → doneOf (openedState tasks objects owners) task ≡ 0
-unfolding openedState
-opened-done tasks objects owners task = zeros-at maxTasks task
+module _ (tasks objects fields : ℕ) (owners : List ℕ) where
+  pub opened-shaped : Shaped (openedState tasks objects fields owners)
+  unfolding openedState
+  opened-shaped = record {
+    cells = cells-length owners fields (cellsOf fields objects);
+    done = refl;
+    seen = refl;
+    took = refl;
+  }
 
-pub opened-owner : (tasks objects : ℕ) (owners : List ℕ) (o : ℕ) → objects ≤ maxObjects → o < objects →
-    localityOf (openedState tasks objects owners) o ≡ WriteExclusive (getD owners o 0)
-unfolding openedState
-opened-owner tasks objects owners o h k = ap (λ (r : ObjectRecord). r .locality) (records-at owners objects o h k)
+  pub opened-cells : cellCount (openedState tasks objects fields owners) ≡ cellsOf fields objects
+  unfolding openedState
+  opened-cells = refl
 
--- an opening with T, N and the owners in range is sound
-pub opened-facts : (tasks objects : ℕ) (owners : List ℕ) → 1 ≤ tasks → tasks ≤ maxTasks → 1 ≤ objects → objects ≤ maxObjects →
-    ((o : ℕ) → o < objects → getD owners o 0 < tasks) → Sound (openedState tasks objects owners)
-unfolding openedState
-opened-facts tasks objects owners some-task tasks-fit some-object objects-fit low = record {
-  some-task = some-task;
-  tasks-fit = tasks-fit;
-  some-object = some-object;
-  objects-fit = objects-fit;
-  last = record { placed = λ h. refl; task-low = λ h. omega arith; reached = omega arith };
-  counted = omega arith;
-  task = λ i h. zeros i;
-  object = λ o h. rw (opened-owner tasks objects owners o objects-fit h) (writer-bounds tasks 0 (getD owners o 0) (low o h));
-}
-  where
-    zeros : (i : ℕ) → TaskBounds (getD (replicate maxTasks 0) i 0) (getD (replicate maxTasks 0) i 0) (getD (replicate maxTasks 0) i 0) 0
-    zeros i = rw (zeros-at maxTasks i) record { done-fits = omega arith; seen-low = omega arith; took-low = omega arith }
+  -- no access has been made yet
+  pub opened-done : (task : ℕ) → doneOf (openedState tasks objects fields owners) task ≡ 0
+  unfolding openedState
+  opened-done task = zeros-at maxTasks task
 
-pub opened-sound : (tasks objects : ℕ) (owners : List ℕ) → 1 ≤ tasks → tasks ≤ maxTasks → 1 ≤ objects → objects ≤ maxObjects →
-    ((o : ℕ) → o < objects → getD owners o 0 < tasks) → soundOf (openedState tasks objects owners) ≡ true
-opened-sound tasks objects owners some-task tasks-fit some-object objects-fit low =
-    sound-test _ (opened-facts tasks objects owners some-task tasks-fit some-object objects-fit low)
+  module _ (o : Opens tasks objects fields owners) where
+    pub opened-owner : (cell : ℕ) → cell < cellsOf fields objects
+        → localityOf (openedState tasks objects fields owners) cell ≡ WriteExclusive (ownerOf owners fields cell)
+    unfolding openedState
+    opened-owner cell h =
+        ap (λ (r : CellRecord). r .locality) (cells-at owners fields (cellsOf fields objects) cell (cells-few fields objects (o .fields-fit) (o .objects-fit)) h)
+
+    -- each field of an object is first held by the object's owner
+    pub opened-field : (object field : ℕ) → object < objects → field < widthOf fields
+        → localityOf (openedState tasks objects fields owners) (cellOf fields object field) ≡ WriteExclusive (getD owners object 0)
+    unfolding cellOf
+    opened-field object field h k = rw (opened-owner (cellOf fields object field) (cell-below fields objects object field h k), digits-div object k)
+
+    -- an opening with T, N, F and the owners in range is sound
+    pub opened-facts : Sound (openedState tasks objects fields owners)
+    unfolding openedState
+    opened-facts = record {
+      some-task = o .some-task;
+      tasks-fit = o .tasks-fit;
+      some-object = o .some-object;
+      objects-fit = o .objects-fit;
+      fields-fit = o .fields-fit;
+      last = record { placed = λ h. refl; task-low = λ h. omega arith; reached = omega arith };
+      counted = omega arith;
+      task = λ i h. zeros i;
+      cell = λ c h. rw (opened-owner c h) (writer-bounds tasks 0 (ownerOf owners fields c) (o .owners-low _ (object-below fields objects c h)));
+    }
+      where
+        zeros : (i : ℕ) → TaskBounds (getD (replicate maxTasks 0) i 0) (getD (replicate maxTasks 0) i 0) (getD (replicate maxTasks 0) i 0) 0
+        zeros i = rw (zeros-at maxTasks i) record { done-fits = omega arith; seen-low = omega arith; took-low = omega arith }
+
+    pub opened-sound : soundOf (openedState tasks objects fields owners) ≡ true
+    opened-sound = sound-test _ opened-facts
+
+    -- so accesses can be tracked from it
+    pub opened-fresh : Fresh (openedState tasks objects fields owners)
+    opened-fresh = record {
+      shaped = opened-shaped;
+      sound = opened-facts;
+      none-done = opened-done;
+      held = λ cell low. rw (opened-owner cell (rw opened-cells at low));
+    }

@@ -1,4 +1,4 @@
--- The table's rows by cases, for proofs: each row with the object's state and the access it is for.
+-- The table's rows by cases, for proofs: each row with the cell's state and the access it is for.
 use mathlib.Core.Bool.{Bool, true, false}
 use mathlib.Core.Path.{_≡_, refl}
 use Prim.Native.Nat.{ℕ, _≤_, _<_}

@@ -2,6 +2,7 @@
 use mathlib.Core.Path.{_≡_, refl}
 use mathlib.Core.List.{List}
 use Prim.Native.Nat.{ℕ, zero, suc}
+use Rattle.codec.specs.Cell.{opCell}
 use Rattle.codec.specs.Laws.Decide.{passes, fails, split}
 use Rattle.codec.specs.Number.{differs}
 use Rattle.entries.specs.Reading.{read}
@@ -22,7 +23,7 @@ unfolding stopIn scheduleFrom
 stops-by zero b x w z = absurd (z refl)
 stops-by (suc n) b x w z = elim (standing (x .run) b (w .sound)) [
   | stops e ↦ absurd (z (rw (schedule-stops (suc n) b (x .run) e)))
-  | goes-on t op next k ↦ elim (split (agrees op (x .memory))) [
+  | goes-on t op next k ↦ elim (split (agrees (opCell (x .run .fields) op) op (x .memory))) [
     | fails a ↦ rw (schedule-goes n b (x .run) t op next k, step-differs b x w t op next k a)
     | passes a ↦
         let s = step-taken b x w t op next k a in

@@ -18,7 +18,7 @@ use Rattle.tracker.specs.declared.Row.{Row}
 use Rattle.tracker.specs.declared.Row.the-variants.{One, Two, Three, Four, Five, Six, Seven, Eight, Nine, Ten}
 use Rattle.tracker.specs.declared.State.{State}
 
--- the plans, over the entries they use: rows that change only the object, and rows 5, 6 and 8
+-- the plans, over the entries they use: rows that change only the cell, and rows 5, 6 and 8
 abbrev pub plainPlan : ℕ → Locality → Kept → Position → Plan
 plainPlan row l e first = record {
   row = row;

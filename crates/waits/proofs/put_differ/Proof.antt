@@ -34,11 +34,10 @@ enum-known-r : tie.Need-enum-known-r
 enum-known-r c = search needs
 
 returns : tie.Need-returns
-returns c = let a = c .before .before .before .before .before .before .before .args in
-    rw (← read-so (c .before), not-access (now (a .memory)) (a .at) (c .before .«record» .result) (c .match .keys2)) (nothing (now (a .out)) 0)
+returns c = let a = c .before .before .before .before .before .before .before .args in rw (← read-so (c .before), not-access (a .fields) (now (a .memory)) (a .at) (c .before .«record» .result) (c .match .keys2)) (nothing (now (a .out)) 0)
 
-cast-held : tie.Need-cast-held
-cast-held c = search needs
+op-cell-requires : tie.Need-op-cell-requires
+op-cell-requires c κs = search needs
 
 held-requires : tie.Need-held-requires
 held-requires c κs = search needs
@@ -51,7 +50,7 @@ same-length c = search needs
 
 returns-2 : tie.Need-returns-2
 unfolding onDiffer
-returns-2 c = rw (← read-so (c .before .before .before .before .before .before .before .before), c .before .before .before .before .before .before .r .given .1, ← c .before .before .before .held .ensures) (c .before .before .put-held .ensures)
+returns-2 c = rw (← read-so (c .before .before .before .before .before .before .before .before .before), c .before .before .before .before .before .before .before .r .given .1, ← c .before .before .before .before .op-cell .ensures, ← c .before .before .before .held .ensures) (c .before .before .put-held .ensures)
 
 pub put-differ-spec : {M : Type 1} → statement M
 put-differ-spec =
@@ -64,7 +63,7 @@ put-differ-spec =
     record-requires
     enum-known-r
     returns
-    cast-held
+    op-cell-requires
     held-requires
     put-held-requires
     same-length

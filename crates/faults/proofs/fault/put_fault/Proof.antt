@@ -1,6 +1,7 @@
 use native.Mathlib.Omega.{arith}
 use borrow.Author.Tests.{not-true, not-false}
 use Rattle.faults.specs.Laws.FaultTextCode.{fault-missing, fault-there}
+use Rattle.faults.specs.Laws.ReadingCode.{sizes-small}
 use borrow.Author.Needs.{needs}
 use Rattle.faults.proofs.fault.put_fault.Statement.{statement}
 use Rattle.faults.proofs.fault.put_fault.Tie as tie
@@ -15,13 +16,10 @@ same-length : tie.Need-same-length
 same-length c = search needs
 
 returns : tie.Need-returns
-returns c =
-    let d = c .before .before .before .before .before .before .place-of in
-    let p = c .before .before .put-missing .ensures in
-    (fault-missing _ _ (d .result) (d .ensures) (not-true _ (c .before .before .before .before .if1 .taken)) (p .0), omega (arith, p .1))
+returns c = let d = c .before .before .before .before .before .before .place-of in let p = c .before .before .put-missing .ensures in (fault-missing _ _ (d .result) (d .ensures) (not-true _ (c .before .before .before .before .if1 .taken)) (p .0), omega (arith, p .1))
 
-objects-of-requires : tie.Need-objects-of-requires
-objects-of-requires c κs = search needs
+text-sizes-requires : tie.Need-text-sizes-requires
+text-sizes-requires c κs = search needs
 
 sub-put-line : tie.Need-sub-put-line
 sub-put-line c = search needs
@@ -33,16 +31,13 @@ part-put-line-end : tie.Need-part-put-line-end
 part-put-line-end c = search needs
 
 put-line-requires : tie.Need-put-line-requires
-put-line-requires c κs = search needs
+put-line-requires c κs = (search needs, rw (c .before .text-sizes .ensures) (sizes-small _))
 
 same-length-2 : tie.Need-same-length-2
 same-length-2 c = search needs
 
 returns-2 : tie.Need-returns-2
-returns-2 c =
-    let d = c .before .before .before .before .before .before .before .before .place-of in
-    let p = c .before .before .put-line .ensures in
-    (fault-there _ _ (d .result) (d .ensures) _ (c .before .before .before .before .objects-of .ensures) (not-false _ (c .before .before .before .before .before .before .if1 .left)) (p .0), p .1)
+returns-2 c = let d = c .before .before .before .before .before .before .before .before .place-of in let p = c .before .before .put-line .ensures in (fault-there _ _ (d .result) (d .ensures) _ (c .before .before .before .before .text-sizes .ensures) (not-false _ (c .before .before .before .before .before .before .if1 .left)) (p .0), p .1)
 
 pub put-fault-spec : {M : Type 1} → statement M
 put-fault-spec =
@@ -52,7 +47,7 @@ put-fault-spec =
     put-missing-requires
     same-length
     returns
-    objects-of-requires
+    text-sizes-requires
     sub-put-line
     part-put-line-start
     part-put-line-end

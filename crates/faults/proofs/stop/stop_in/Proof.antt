@@ -12,10 +12,10 @@ use Rattle.faults.proofs.stop.stop_in.Statement.{statement}
 use Rattle.faults.proofs.stop.stop_in.Tie as tie
 
 abbrev Inv-loop : tie.InvT-loop
-Inv-loop line expected₀ words₀ at₀ expected words at = (at ≤ length line) × (words ≤ at) × (stopOf expected words (wordsIn (drop at line)) ≡ stopOf expected₀ 0 (wordsIn line))
+Inv-loop line named expected₀ words₀ at₀ expected words at = (at ≤ length line) × (words ≤ at) × (stopOf named expected words (wordsIn (drop at line)) ≡ stopOf named expected₀ 0 (wordsIn line))
 
 abbrev μ-loop : tie.MeasureT-loop
-μ-loop line expected₀ words₀ at₀ expected words at = length line - at
+μ-loop line named expected₀ words₀ at₀ expected words at = length line - at
 
 loop-holds : tie.Need-loop-holds Inv-loop μ-loop
 loop-holds c = (omega arith, omega arith, refl)
@@ -27,7 +27,7 @@ returns : tie.Need-returns Inv-loop μ-loop
 returns c =
     let l = c .before .before .before .loop in
     let w = c .before .next-word in
-    stop-none (l .expected) (l .words) (w .result .from) (w .result .to) (c .if1 .taken) (w .ensures .none (c .if1 .taken)) (l .inv .2) (w .ensures .within)
+    stop-none _ (l .expected) (l .words) (w .result .from) (w .result .to) (c .if1 .taken) (w .ensures .none (c .if1 .taken)) (l .inv .2) (w .ensures .within)
 
 sub-field : tie.Need-sub-field Inv-loop μ-loop
 sub-field c = search needs
@@ -49,7 +49,7 @@ returns-2 c =
     let l = c .before .before .before .before .before .before .before .loop in
     let w = c .before .before .before .before .before .next-word in
     let p = sym (c .before .fits2 .ensures) ∙ not-true _ (c .if2 .taken) in
-    stopped _ _ (l .expected) (l .words) (w .result .from) (w .result .to) (sym (stop-off _ _ _ _ (rw (c .before .before .field .ensures) at p)) ∙ sym (ap (stopOf (l .expected) (l .words)) (w .ensures .found (omega (arith, w .ensures .ordered, c .before .before .before .before .if1 .left)))) ∙ l .inv .2) (w .ensures .ordered) (w .ensures .within)
+    stopped _ _ (l .expected) (l .words) (w .result .from) (w .result .to) (sym (stop-off _ _ _ _ _ (rw (c .before .before .field .ensures) at p)) ∙ sym (ap (stopOf (c .before .before .before .before .before .before .before .before .before .args .named) (l .expected) (l .words)) (w .ensures .found (omega (arith, w .ensures .ordered, c .before .before .before .before .if1 .left)))) ∙ l .inv .2) (w .ensures .ordered) (w .ensures .within)
 
 next-requires : tie.Need-next-requires Inv-loop μ-loop
 next-requires c κs = search needs
@@ -69,11 +69,11 @@ loop-again c =
     let i = w .ensures .found (omega (arith, w .ensures .ordered, c .before .before .before .before .before .if1 .left)) in (
       w .ensures .within,
       omega (arith, w .ensures .on, w .ensures .ordered, c .before .before .before .before .before .if1 .left),
-      rw (c .next .ensures, f) (sym (stop-on _ _ _ _ (rw f at p)) ∙ sym (ap (stopOf (l .expected) (l .words)) i) ∙ l .inv .2),
+      rw (c .next .ensures, f) (sym (stop-on _ _ _ _ _ (rw f at p)) ∙ sym (ap (stopOf (c .before .before .before .before .before .before .before .before .before .before .args .named) (l .expected) (l .words)) i) ∙ l .inv .2),
     )
 
 returns-3 : tie.Need-returns-3 Inv-loop μ-loop
-returns-3 c = let l = c .before .loop in stop-none (l .expected) (l .words) (l .at) (l .at) refl (words-end _ (l .at) (omega arith)) (l .inv .2) (omega arith)
+returns-3 c = let l = c .before .loop in stop-none _ (l .expected) (l .words) (l .at) (l .at) refl (words-end _ (l .at) (omega arith)) (l .inv .2) (omega arith)
 
 pub stop-in-spec : {M : Type 1} → statement M
 stop-in-spec =

@@ -31,14 +31,21 @@ malformed-requires-4 c κs = search needs
 
 returns-4 : tie.Need-returns-4
 unfolding askedBy
-returns-4 c = rw (c .malformed4 .ensures, not-false (c .before .before .before .before .before .args .right) (c .before .before .before .before .if1 .left), lt-ltb (c .before .before .before .before .before .args .task) 4294967296 (omega arith), lt-ltb (c .before .before .before .before .before .args .object) 4294967296 (omega arith), le-ltb (c .before .before .before .before .before .args .value) 4294967296 (omega arith))
+returns-4 c = rw (c .malformed4 .ensures, not-false (c .before .before .before .before .before .args .right) (c .before .before .before .before .if1 .left), lt-ltb (c .before .before .before .before .before .args .task) 4294967296 (omega arith), lt-ltb (c .before .before .before .before .before .args .object) 4294967296 (omega arith), le-ltb (c .before .before .before .before .before .args .field) 4294967296 (omega arith))
 
-cast-t9 : tie.Need-cast-t9
-cast-t9 c = search needs
+malformed-requires-5 : tie.Need-malformed-requires-5
+malformed-requires-5 c κs = search needs
 
 returns-5 : tie.Need-returns-5
 unfolding askedBy
-returns-5 c = rw (not-false (c .before .before .before .before .args .right) (c .before .before .before .if1 .left), lt-ltb (c .before .before .before .before .args .task) 4294967296 (omega arith), lt-ltb (c .before .before .before .before .args .object) 4294967296 (omega arith), lt-ltb (c .before .before .before .before .args .value) 4294967296 (omega arith))
+returns-5 c = rw (c .malformed5 .ensures, not-false (c .before .before .before .before .before .before .args .right) (c .before .before .before .before .before .if1 .left), lt-ltb (c .before .before .before .before .before .before .args .task) 4294967296 (omega arith), lt-ltb (c .before .before .before .before .before .before .args .object) 4294967296 (omega arith), lt-ltb (c .before .before .before .before .before .before .args .field) 4294967296 (omega arith), le-ltb (c .before .before .before .before .before .before .args .value) 4294967296 (omega arith))
+
+cast-t11 : tie.Need-cast-t11
+cast-t11 c = search needs
+
+returns-6 : tie.Need-returns-6
+unfolding askedBy
+returns-6 c = rw (not-false (c .before .before .before .before .before .args .right) (c .before .before .before .before .if1 .left), lt-ltb (c .before .before .before .before .before .args .task) 4294967296 (omega arith), lt-ltb (c .before .before .before .before .before .args .object) 4294967296 (omega arith), lt-ltb (c .before .before .before .before .before .args .field) 4294967296 (omega arith), lt-ltb (c .before .before .before .before .before .args .value) 4294967296 (omega arith))
 
 pub asked-by-spec : {M : Type 1} → statement M
 asked-by-spec =
@@ -52,5 +59,7 @@ asked-by-spec =
     returns-3
     malformed-requires-4
     returns-4
-    cast-t9
-    returns-5)
+    malformed-requires-5
+    returns-5
+    cast-t11
+    returns-6)

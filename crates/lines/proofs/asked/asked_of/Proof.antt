@@ -1,71 +1,18 @@
-use mathlib.Core.Path.{_∙_}
-use native.Mathlib.Omega.{arith}
-use Rattle.lines.specs.Laws.AskedCode.{asked-three, asked-four, asked-none}
 use borrow.Author.Needs.{needs}
 use Rattle.lines.proofs.asked.asked_of.Statement.{statement}
 use Rattle.lines.proofs.asked.asked_of.Tie as tie
 
-slice-aggregate-fields : tie.Need-slice-aggregate-fields
-slice-aggregate-fields c = search needs
-
-fields-requires : tie.Need-fields-requires
-fields-requires c κs = search needs
-
-array-read-asked-by : tie.Need-array-read-asked-by
-array-read-asked-by c = search needs
-
-array-read-asked-by-2 : tie.Need-array-read-asked-by-2
-array-read-asked-by-2 c = search needs
-
-array-read-asked-by-3 : tie.Need-array-read-asked-by-3
-array-read-asked-by-3 c = search needs
-
-asked-by-requires : tie.Need-asked-by-requires
-asked-by-requires c κs = search needs
+fielded-requires : tie.Need-fielded-requires
+fielded-requires c κs = search needs
 
 returns : tie.Need-returns
-returns c = let f = c .before .before .before .fields in c .asked-by .ensures ∙ rw (f .ensures .1) (asked-three _ _ (omega arith) (omega (arith, f .ensures .0)))
+returns c = rw (c .before .if1 .taken) (c .fielded .ensures)
 
-array-read-asked-by-4 : tie.Need-array-read-asked-by-4
-array-read-asked-by-4 c = search needs
-
-array-read-asked-by-5 : tie.Need-array-read-asked-by-5
-array-read-asked-by-5 c = search needs
-
-array-read-asked-by-6 : tie.Need-array-read-asked-by-6
-array-read-asked-by-6 c = search needs
-
-array-read-asked-by-7 : tie.Need-array-read-asked-by-7
-array-read-asked-by-7 c = search needs
-
-asked-by-requires-2 : tie.Need-asked-by-requires-2
-asked-by-requires-2 c κs = search needs
+plain-requires : tie.Need-plain-requires
+plain-requires c κs = search needs
 
 returns-2 : tie.Need-returns-2
-returns-2 c = let f = c .before .before .before .before .fields in c .asked-by2 .ensures ∙ rw (f .ensures .1) (asked-four _ _ (omega arith) (omega (arith, f .ensures .0)))
-
-malformed-requires : tie.Need-malformed-requires
-malformed-requires c κs = search needs
-
-returns-3 : tie.Need-returns-3
-returns-3 c = let f = c .before .before .before .before .fields in c .malformed .ensures ∙ asked-none _ (λ z. c .before .before .if1 .left (f .ensures .0 ∙ z)) (λ z. c .before .if2 .left (f .ensures .0 ∙ z))
+returns-2 c = rw (c .before .if1 .left) (c .plain .ensures)
 
 pub asked-of-spec : {M : Type 1} → statement M
-asked-of-spec =
-    tie.close
-    (tie.spec
-    slice-aggregate-fields
-    fields-requires
-    array-read-asked-by
-    array-read-asked-by-2
-    array-read-asked-by-3
-    asked-by-requires
-    returns
-    array-read-asked-by-4
-    array-read-asked-by-5
-    array-read-asked-by-6
-    array-read-asked-by-7
-    asked-by-requires-2
-    returns-2
-    malformed-requires
-    returns-3)
+asked-of-spec = tie.close (tie.spec fielded-requires returns plain-requires returns-2)

@@ -8,17 +8,17 @@ run-of-requires c κs = search needs
 step-requires : tie.Need-step-requires
 step-requires c κs = search needs
 
-cast-put-six : tie.Need-cast-put-six
-cast-put-six c = search needs
+cast-put-seven : tie.Need-cast-put-seven
+cast-put-seven c = search needs
 
-cast-put-six-2 : tie.Need-cast-put-six-2
-cast-put-six-2 c = search needs
+cast-put-seven-2 : tie.Need-cast-put-seven-2
+cast-put-seven-2 c = search needs
 
-cast-put-six-3 : tie.Need-cast-put-six-3
-cast-put-six-3 c = search needs
+cast-put-seven-3 : tie.Need-cast-put-seven-3
+cast-put-seven-3 c = search needs
 
-put-six-requires : tie.Need-put-six-requires
-put-six-requires c κs = search needs
+put-seven-requires : tie.Need-put-seven-requires
+put-seven-requires c κs = search needs
 
 put-run-requires : tie.Need-put-run-requires
 put-run-requires c κs = search needs
@@ -30,7 +30,7 @@ returns : tie.Need-returns
 returns c =
     let e = c .before .before .before .before .before .before .before .before .before .before .step .ensures in
     let b = c .before .before .before .before .before .before .before .before .before .before .before .before .run-of .ensures in
-    (rw b at (e .1), (rw (e .0, b) at (c .before .before .before .put-six .ensures), rw (e .0, b) at (c .put-run .ensures)))
+    (rw b at (e .1), (rw (e .0, b) at (c .before .before .before .put-seven .ensures), rw (e .0, b) at (c .put-run .ensures)))
 
 pub wk-step-spec : {M : Type 1} → statement M
 wk-step-spec =
@@ -38,10 +38,10 @@ wk-step-spec =
     (tie.spec
     run-of-requires
     step-requires
-    cast-put-six
-    cast-put-six-2
-    cast-put-six-3
-    put-six-requires
+    cast-put-seven
+    cast-put-seven-2
+    cast-put-seven-3
+    put-seven-requires
     put-run-requires
     same-length
     returns)

@@ -1,3 +1,4 @@
+use Rattle.pending.specs.Laws.Sound.{sound-facts}
 use mathlib.Core.Path.{_≡_, refl, sym, ap, _∙_}
 use native.Mathlib.Omega.{arith}
 use Prim.Native.Nat.{_+_}
@@ -23,12 +24,12 @@ use Rattle.playback.proofs.finish.finish.Tie as tie
 
 abbrev Inv-loop : tie.InvT-loop
 Inv-loop run bytes memory₀ places₀ ends dones₀ counts scans₀ ats₀ steps₀ memory places dones scans ats steps =
-    Columned bytes (run .tasks) (run .objects) places ends dones counts scans ats × (length memory ≡ length memory₀)
-    × Going bytes (record { run = run; memory = memory₀; steps = 0 }) (record { run = runOf (run .tasks) (run .objects) places ends dones counts; memory = memory; steps = steps })
+    Columned bytes (run .tasks) (run .objects) (run .fields) places ends dones counts scans ats × (length memory ≡ length memory₀)
+    × Going bytes (record { run = run; memory = memory₀; steps = 0 }) (record { run = runOf (run .tasks) (run .objects) (run .fields) places ends dones counts; memory = memory; steps = steps })
 
 abbrev μ-loop : tie.MeasureT-loop
 μ-loop run bytes memory₀ places₀ ends dones₀ counts scans₀ ats₀ steps₀ memory places dones scans ats steps =
-    leftOver (runOf (run .tasks) (run .objects) places ends dones counts)
+    leftOver (runOf (run .tasks) (run .objects) (run .fields) places ends dones counts)
 
 -- the play at the start
 abbrev start : tie.Start Inv-loop μ-loop → Play
@@ -36,10 +37,10 @@ start c = record { run = c .args .run; memory = now (c .args .memory); steps = 0
 
 -- the run at the loop's head, and after a task is found
 abbrev here : tie.At-loop Inv-loop μ-loop → Run
-here c = let k = c .before .before .before .before .before .columns-of .result in let r = c .before .before .before .before .before .before .before .before .args .run in runOf (r .tasks) (r .objects) (c .loop .places) (k .ends) (c .loop .dones) (k .counts)
+here c = let k = c .before .before .before .before .before .columns-of .result in let r = c .before .before .before .before .before .before .before .before .args .run in runOf (r .tasks) (r .objects) (r .fields) (c .loop .places) (k .ends) (c .loop .dones) (k .counts)
 
 abbrev after : tie.After-lowest Inv-loop μ-loop → Run
-after c = let k = c .before .before .before .before .before .before .before .before .before .before .before .before .columns-of .result in let r = c .before .before .before .before .before .before .before .before .before .before .before .before .before .before .before .args .run in runOf (r .tasks) (r .objects) (c .lowest .last .1 .1 .1 .0) (k .ends) (c .lowest .last .1 .1 .1 .1 .1 .0) (k .counts)
+after c = let k = c .before .before .before .before .before .before .before .before .before .before .before .before .columns-of .result in let r = c .before .before .before .before .before .before .before .before .before .before .before .before .before .before .before .args .run in runOf (r .tasks) (r .objects) (r .fields) (c .lowest .last .1 .1 .1 .1 .0) (k .ends) (c .lowest .last .1 .1 .1 .1 .1 .1 .0) (k .counts)
 
 found : (c : tie.After-known-told Inv-loop μ-loop) →
     let g = c .before .n .given .0 in
@@ -48,18 +49,18 @@ found c = let l = c .before .before .before .lowest .ensures in found-next _ _ (
 
 -- the play after its step
 on : (c : tie.After-perform Inv-loop μ-loop) →
-    Going (now (c .before .before .before .before .before .before .before .before .before .before .before .before .before .before .before .before .before .before .before .before .before .before .before .args .bytes)) (start (c .before .before .before .before .before .before .before .before .before .before .before .before .before .before .before .before .before .before .before .before .before .before .before)) (record { run = after (c .before .before .before .before .before .before .before .before); memory = c .perform .last .1 .0; steps = c .before .before .before .before .before .before .before .before .before .before .before .before .before .before .before .loop .steps + 1 })
-on c = let f = found (c .before .before .before .before .before) in going-on _ _ _ (c .before .before .before .before .before .before .before .before .before .before .before .before .before .before .before .loop .inv .2) _ _ _ (f .is) (sym (c .before .before .before .agrees .ensures) ∙ not-false _ (c .before .before .if1 .left)) _ _ (f .run) (c .perform .ensures .1)
+    Going (now (c .before .before .before .before .before .before .before .before .before .before .before .before .before .before .before .before .before .before .before .before .before .before .before .before .args .bytes)) (start (c .before .before .before .before .before .before .before .before .before .before .before .before .before .before .before .before .before .before .before .before .before .before .before .before)) (record { run = after (c .before .before .before .before .before .before .before .before .before); memory = c .perform .last .1 .1 .0; steps = c .before .before .before .before .before .before .before .before .before .before .before .before .before .before .before .before .loop .steps + 1 })
+on c = let f = found (c .before .before .before .before .before .before) in going-on _ _ _ (c .before .before .before .before .before .before .before .before .before .before .before .before .before .before .before .before .loop .inv .2) _ _ _ (f .is) (rw (c .before .before .before .before .before .op-cell .ensures) at (sym (c .before .before .before .agrees .ensures) ∙ not-false _ (c .before .before .if1 .left))) _ _ (f .run) (rw (c .before .before .before .before .before .op-cell .ensures) at (c .perform .ensures .1))
 
 -- where the next task stands then
-standing : (c : tie.After-known-told Inv-loop μ-loop) → let g = c .before .n .given .0 in getD (c .before .before .before .lowest .last .1 .1 .1 .0) (g .0) 0 ≡ found c .next
+standing : (c : tie.After-known-told Inv-loop μ-loop) → let g = c .before .n .given .0 in getD (c .before .before .before .lowest .last .1 .1 .1 .1 .0) (g .0) 0 ≡ found c .next
 standing c =
     let r = c .before .before .before .before .before .before .before .before .before .before .before .before .before .before .before .before .before .before .args .run in
     let k = c .before .before .before .before .before .before .before .before .before .before .before .before .before .before .before .columns-of .result in
     let l = c .before .before .before .before .before .before .before .before .before .before .loop in
     let w = c .before .before .before .lowest .last in
     let f = found c in
-    columns-place (r .tasks) (r .objects) (w .1 .1 .1 .0) (k .ends) (w .1 .1 .1 .1 .1 .0) (k .counts) (here (c .before .before .before .before .before .before .before .before .before .before)) _ _ (columns-shaped (r .tasks) (r .objects) (l .places) (k .ends) (l .dones) (k .counts)) (f .is .few) (f .run)
+    columns-place (r .tasks) (r .objects) (r .fields) (w .1 .1 .1 .1 .0) (k .ends) (w .1 .1 .1 .1 .1 .1 .0) (k .counts) (here (c .before .before .before .before .before .before .before .before .before .before)) _ _ (columns-shaped (r .tasks) (r .objects) (r .fields) (l .places) (k .ends) (l .dones) (k .counts)) (f .is .few) (f .run)
 
 columns-of-requires : tie.Need-columns-of-requires Inv-loop μ-loop
 columns-of-requires c κs = search needs
@@ -96,58 +97,61 @@ returns c =
     let k = c .before .before .before .before .before .before .before .before .before .before .before .before .before .before .before .before .before .before .columns-of .result in
     let l = c .before .before .before .before .before .before .lowest in
     let n = found-none _ _ (i .0 .sound) _ (after (c .before .before .before .before .before .before)) (l .ensures .0) (l .ensures .1 .0) (not-ready _ (c .before .before .before .before .before .match .keys2)) in
-    let e = columns-finished (r .tasks) (r .objects) (l .last .1 .1 .1 .0) (k .ends) (l .last .1 .1 .1 .1 .1 .0) (k .counts) in
+    let e = columns-finished (r .tasks) (r .objects) (r .fields) (l .last .1 .1 .1 .1 .0) (k .ends) (l .last .1 .1 .1 .1 .1 .1 .0) (k .counts) in
     let g = going-end _ _ _ (i .2) (n .0) _ (c .before .all-done .ensures ∙ sym e ∙ ap finishedOf {x = after (c .before .before .before .before .before .before)} (n .1)) in
     (c .result-of .ensures ∙ g .0, g .1)
+
+op-cell-requires : tie.Need-op-cell-requires Inv-loop μ-loop
+op-cell-requires c κs = omega (arith, sound-facts _ _ (c .before .before .before .before .before .before .before .before .before .before .before .before .before .before .before .before .before .before .pre .0 .sound) .few-fields)
 
 agrees-requires : tie.Need-agrees-requires Inv-loop μ-loop
 agrees-requires c κs = search needs
 
 mul-record-at : tie.Need-mul-record-at Inv-loop μ-loop
-mul-record-at c = omega (arith, found (c .before .before .before) .is .few)
+mul-record-at c = omega (arith, found (c .before .before .before .before) .is .few)
 
 array-read-record-at : tie.Need-array-read-record-at Inv-loop μ-loop
-array-read-record-at c = found (c .before .before .before) .is .few
+array-read-record-at c = found (c .before .before .before .before) .is .few
 
 -- the read's record ends where its task stands
 read-at : (c : tie.After-record-at Inv-loop μ-loop) →
-    let g = c .before .before .before .before .before .n .given .0 in
-    c .record-at .result ≡ recordAt (g .1 .0) (getD (c .before .before .before .before .before .before .before .lowest .last .1 .1 .1 .0) (g .0) 0)
+    let g = c .before .before .before .before .before .before .n .given .0 in
+    c .record-at .result ≡ recordAt (g .1 .0) (getD (c .before .before .before .before .before .before .before .before .lowest .last .1 .1 .1 .1 .0) (g .0) 0)
 read-at c = c .record-at .ensures
 
 record-at-requires : tie.Need-record-at-requires Inv-loop μ-loop
-record-at-requires c κs = omega (arith, standing (c .before .before .before), next-long _ _ _ _ _ (found (c .before .before .before) .is .opens))
+record-at-requires c κs = omega (arith, standing (c .before .before .before .before), next-long _ _ _ _ _ (found (c .before .before .before .before) .is .opens))
 
 result-of-requires-2 : tie.Need-result-of-requires-2 Inv-loop μ-loop
 result-of-requires-2 c κs = search needs
 
 same-length-2 : tie.Need-same-length-2 Inv-loop μ-loop
-same-length-2 c = c .before .before .before .before .before .before .before .before .before .before .before .before .before .before .before .loop .inv .1
+same-length-2 c = c .before .before .before .before .before .before .before .before .before .before .before .before .before .before .before .before .loop .inv .1
 
 -- what a play that is stopped answers
 stops : (c : tie.After-result-of2 Inv-loop μ-loop) →
-    let r = c .before .before .before .before .before .before .before .before .before .before .before .before .before .before .before .before .before .before .before .before .before .before .before .args .run in
-    c .result-of2 .result ≡ record { tasks = r .tasks; objects = r .objects; steps = c .before .before .before .before .before .before .before .before .before .before .before .before .before .before .before .loop .steps; finished = false; stopped = stop differs (c .before .record-at .result) }
+    let r = c .before .before .before .before .before .before .before .before .before .before .before .before .before .before .before .before .before .before .before .before .before .before .before .before .args .run in
+    c .result-of2 .result ≡ record { tasks = r .tasks; objects = r .objects; steps = c .before .before .before .before .before .before .before .before .before .before .before .before .before .before .before .before .loop .steps; finished = false; stopped = stop differs (c .before .record-at .result) }
 stops c = c .result-of2 .ensures
 
 returns-2 : tie.Need-returns-2 Inv-loop μ-loop
 returns-2 c =
-    let f = found (c .before .before .before .before .before) in
-    let e = ap (recordAt (c .before .before .before .before .before .before .n .given .0 .1 .0)) (standing (c .before .before .before .before .before)) in
-    let g = going-stopped _ _ _ (c .before .before .before .before .before .before .before .before .before .before .before .before .before .before .before .loop .inv .2) _ _ _ (f .is) (sym (c .before .before .before .agrees .ensures) ∙ not-true _ (c .before .before .if1 .taken)) _ (read-at (c .before) ∙ e) in
+    let f = found (c .before .before .before .before .before .before) in
+    let e = ap (recordAt (c .before .before .before .before .before .before .before .n .given .0 .1 .0)) (standing (c .before .before .before .before .before .before)) in
+    let g = going-stopped _ _ _ (c .before .before .before .before .before .before .before .before .before .before .before .before .before .before .before .before .loop .inv .2) _ _ _ (f .is) (rw (c .before .before .before .before .before .op-cell .ensures) at (sym (c .before .before .before .agrees .ensures) ∙ not-true _ (c .before .before .if1 .taken))) _ (read-at (c .before) ∙ e) in
     (stops c ∙ g .0, g .1)
 
 perform-requires : tie.Need-perform-requires Inv-loop μ-loop
 perform-requires c κs = search needs
 
 add-steps : tie.Need-add-steps Inv-loop μ-loop
-add-steps c = record { fits = omega (arith, on (c .before .before) .steps, c .before .before .before .before .before .before .before .before .before .before .before .before .before .before .before .before .before .before .before .before .before .before .before .before .before .pre .1) }
+add-steps c = record { fits = omega (arith, on (c .before .before) .steps, c .before .before .before .before .before .before .before .before .before .before .before .before .before .before .before .before .before .before .before .before .before .before .before .before .before .before .pre .1) }
 
 loop-less : tie.Need-loop-less Inv-loop μ-loop
-loop-less c = omega (arith, on (c .before .before) .steps, c .before .before .before .before .before .before .before .before .before .before .before .before .before .before .before .before .before .loop .inv .2 .steps)
+loop-less c = omega (arith, on (c .before .before) .steps, c .before .before .before .before .before .before .before .before .before .before .before .before .before .before .before .before .before .before .loop .inv .2 .steps)
 
 loop-again : tie.Need-loop-again Inv-loop μ-loop
-loop-again c = (c .before .before .before .before .before .before .before .before .before .before .lowest .ensures .1 .1, c .before .memory .given ∙ c .before .before .before .before .before .before .before .before .before .before .before .before .before .before .before .before .before .loop .inv .1, on (c .before .before))
+loop-again c = (c .before .before .before .before .before .before .before .before .before .before .before .lowest .ensures .1 .1, c .before .memory .given ∙ c .before .before .before .before .before .before .before .before .before .before .before .before .before .before .before .before .before .before .loop .inv .1, on (c .before .before))
 
 pub finish-spec : {M : Type 1} → statement M
 finish-spec =
@@ -164,6 +168,7 @@ finish-spec =
     result-of-requires
     same-length
     returns
+    op-cell-requires
     agrees-requires
     mul-record-at
     array-read-record-at

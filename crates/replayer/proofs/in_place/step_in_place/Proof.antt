@@ -180,9 +180,9 @@ module _ {M : Type 1} (𝓤 : URA M) (H : Heap 𝓤) (A : Atoms 𝓤) (W : Given
         land ! (from ! (stop !)) (init ! 14 refl (LL.lawful S.the-type S′.the-laws 𝓤 H A W .typed r _ is′ .0)) $
         rewrite ! 14 (λ (u : Val). ‵ (fat fullShare S′.mir l₅ 0 u)) (ap only (LL.tells S.the-type S′.the-laws r _ is′)) refl $
         rewrite ! 0 (λ (u : Val). ‵ (S.the-row .own r (u ∷ []))) (ap only (LL.tells S.the-type S′.the-laws r _ is′)) refl $
-        assigns ! (of-opd ! (load ! (from ! (fld ! refl (stop !))) (look-in ! 14 (sub ! 6 refl (whole !))))) (from ! (hop ! (look ! 22 refl) (stop !))) (store-in ! 3 (whole !) (LL.lawful T.the-type T′.the-laws 𝓤 H A W .typed (r .run) _ (LL.owed S.the-type S′.the-laws r _ is′ .1 .1 .1 .1 .1 .1 .0) .0)) $
+        assigns ! (of-opd ! (load ! (from ! (fld ! refl (stop !))) (look-in ! 14 (sub ! 7 refl (whole !))))) (from ! (hop ! (look ! 22 refl) (stop !))) (store-in ! 3 (whole !) (LL.lawful T.the-type T′.the-laws 𝓤 H A W .typed (r .run) _ (LL.owed S.the-type S′.the-laws r _ is′ .1 .1 .1 .1 .1 .1 .1 .0) .0)) $
         -- the borrow is closed at the answer's run
-        move ! (4 ∷ []) $ drop ! $ owned ! T.the-row (Is T.the-row) (LL.makes T.the-type T′.the-plain 𝓤 H A) (r .run) _ (LL.owed S.the-type S′.the-laws r _ is′ .1 .1 .1 .1 .1 .1 .0) $
+        move ! (4 ∷ []) $ drop ! $ owned ! T.the-row (Is T.the-row) (LL.makes T.the-type T′.the-plain 𝓤 H A) (r .run) _ (LL.owed S.the-type S′.the-laws r _ is′ .1 .1 .1 .1 .1 .1 .1 .0) $
         move ! (4 ∷ []) $ use1 W (‵ (cellAt fullShare (T.the-row .mir) (vals (r .run)) b o)) (W .laws .at-raw fullShare T′.mir b o (val (r .run))) $
         move ! (0 ∷ 1 ∷ 5 ∷ 6 ∷ 7 ∷ []) $ closes ! tt (T.the-row) (r .run) (vals (r .run)) b o $
         -- [obs; the borrow; κ's token; the answer; the other tokens; the last memory; _8 at 6; …; _0 at 22]: `shown`

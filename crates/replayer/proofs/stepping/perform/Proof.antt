@@ -6,9 +6,6 @@ use borrow.Author.Needs.{needs}
 use Rattle.replayer.proofs.stepping.perform.Statement.{statement}
 use Rattle.replayer.proofs.stepping.perform.Tie as tie
 
-cast-o : tie.Need-cast-o
-cast-o c = search needs
-
 writes-requires : tie.Need-writes-requires
 writes-requires c κs = search needs
 
@@ -37,13 +34,12 @@ returns-3 : tie.Need-returns-3
 returns-3 c = rw (sym (c .before .before .before .writes .ensures) ∙ c .before .before .if1 .left) (refl, refl)
 
 returns-4 : tie.Need-returns-4
-returns-4 c = rw (sym (c .before .before .writes .ensures) ∙ c .before .if1 .left) (sym (List·getD-eq-default (now (c .before .before .before .before .before .args .memory)) 0 (c .if3 .left)), refl)
+returns-4 c = rw (sym (c .before .before .writes .ensures) ∙ c .before .if1 .left) (sym (List·getD-eq-default (now (c .before .before .before .before .args .memory)) 0 (c .if3 .left)), refl)
 
 pub perform-spec : {M : Type 1} → statement M
 perform-spec =
     tie.close
     (tie.spec
-    cast-o
     writes-requires
     mul-memory
     slice-write-memory

@@ -8,37 +8,37 @@ use Rattle.scheduler.proofs.columns.run_of.Statement.{statement}
 use Rattle.scheduler.proofs.columns.run_of.Tie as tie
 
 abbrev Inv-loop : tie.InvT-loop
-Inv-loop tasks objects places ends dones counts runs₀ t₀ runs t = Filled (taskOf places ends dones counts) maxTasks runs t
+Inv-loop tasks objects fields places ends dones counts runs₀ t₀ runs t = Filled (taskOf places ends dones counts) maxTasks runs t
 
 abbrev μ-loop : tie.MeasureT-loop
-μ-loop tasks objects places ends dones counts runs₀ t₀ runs t = maxTasks - t
+μ-loop tasks objects fields places ends dones counts runs₀ t₀ runs t = maxTasks - t
 
 loop-holds : tie.Need-loop-holds Inv-loop μ-loop
 loop-holds c = filled-none _ _ _ refl
 
-mul-t12 : tie.Need-mul-t12 Inv-loop μ-loop
-mul-t12 c = search needs
+mul-t13 : tie.Need-mul-t13 Inv-loop μ-loop
+mul-t13 c = search needs
 
-element-copy-out-t15 : tie.Need-element-copy-out-t15 Inv-loop μ-loop
-element-copy-out-t15 c = search needs
+element-copy-out-t16 : tie.Need-element-copy-out-t16 Inv-loop μ-loop
+element-copy-out-t16 c = search needs
 
-mul-t16 : tie.Need-mul-t16 Inv-loop μ-loop
-mul-t16 c = search needs
+mul-t17 : tie.Need-mul-t17 Inv-loop μ-loop
+mul-t17 c = search needs
 
-element-copy-out-t19 : tie.Need-element-copy-out-t19 Inv-loop μ-loop
-element-copy-out-t19 c = search needs
+element-copy-out-t20 : tie.Need-element-copy-out-t20 Inv-loop μ-loop
+element-copy-out-t20 c = search needs
 
-mul-t20 : tie.Need-mul-t20 Inv-loop μ-loop
-mul-t20 c = search needs
+mul-t21 : tie.Need-mul-t21 Inv-loop μ-loop
+mul-t21 c = search needs
 
-element-copy-out-t23 : tie.Need-element-copy-out-t23 Inv-loop μ-loop
-element-copy-out-t23 c = search needs
+element-copy-out-t24 : tie.Need-element-copy-out-t24 Inv-loop μ-loop
+element-copy-out-t24 c = search needs
 
-mul-t24 : tie.Need-mul-t24 Inv-loop μ-loop
-mul-t24 c = search needs
+mul-t25 : tie.Need-mul-t25 Inv-loop μ-loop
+mul-t25 c = search needs
 
-element-copy-out-t27 : tie.Need-element-copy-out-t27 Inv-loop μ-loop
-element-copy-out-t27 c = search needs
+element-copy-out-t28 : tie.Need-element-copy-out-t28 Inv-loop μ-loop
+element-copy-out-t28 c = search needs
 
 mul-runs : tie.Need-mul-runs Inv-loop μ-loop
 mul-runs c = search needs
@@ -65,14 +65,14 @@ run-of-spec =
     Inv-loop
     μ-loop
     loop-holds
-    mul-t12
-    element-copy-out-t15
-    mul-t16
-    element-copy-out-t19
-    mul-t20
-    element-copy-out-t23
-    mul-t24
-    element-copy-out-t27
+    mul-t13
+    element-copy-out-t16
+    mul-t17
+    element-copy-out-t20
+    mul-t21
+    element-copy-out-t24
+    mul-t25
+    element-copy-out-t28
     mul-runs
     array-set-from-runs
     add-t

@@ -22,16 +22,16 @@ use Rattle.scheduler.proofs.lowest.lowest.Statement.{statement}
 use Rattle.scheduler.proofs.lowest.lowest.Tie as tie
 
 abbrev Inv-loop : tie.InvT-loop
-Inv-loop tasks objects bytes places₀ ends dones₀ counts scans₀ ats₀ t₀ places dones scans ats t =
-    Columned bytes tasks objects places ends dones counts scans ats × (t ≤ tasks) × ((u : ℕ) → u < t → isReady (runOf tasks objects places ends dones counts) bytes u ≡ false)
-    × (runOf tasks objects places ends dones counts ≡ runOf tasks objects places₀ ends dones₀ counts)
+Inv-loop tasks objects fields bytes places₀ ends dones₀ counts scans₀ ats₀ t₀ places dones scans ats t =
+    Columned bytes tasks objects fields places ends dones counts scans ats × (t ≤ tasks) × ((u : ℕ) → u < t → isReady (runOf tasks objects fields places ends dones counts) bytes u ≡ false)
+    × (runOf tasks objects fields places ends dones counts ≡ runOf tasks objects fields places₀ ends dones₀ counts)
 
 abbrev μ-loop : tie.MeasureT-loop
-μ-loop tasks objects bytes places₀ ends dones₀ counts scans₀ ats₀ t₀ places dones scans ats t = tasks - t
+μ-loop tasks objects fields bytes places₀ ends dones₀ counts scans₀ ats₀ t₀ places dones scans ats t = tasks - t
 
 -- the run that the columns represent, and its soundness
 abbrev run : tie.At-loop Inv-loop μ-loop → Run
-run c = let a = c .before .before .args in runOf (a .tasks) (a .objects) (c .loop .places) (now (a .ends)) (c .loop .dones) (now (a .counts))
+run c = let a = c .before .before .args in runOf (a .tasks) (a .objects) (a .fields) (c .loop .places) (now (a .ends)) (c .loop .dones) (now (a .counts))
 
 sound : (c : tie.In-loop Inv-loop μ-loop) → Sound (run (c .before)) (length (now (c .before .before .before .args .bytes)))
 sound c = sound-facts (run (c .before)) (length (now (c .before .before .before .args .bytes))) (c .before .loop .inv .0 .sound)
@@ -45,7 +45,7 @@ one : (c : tie.In-loop Inv-loop μ-loop) →
     OneTask (run (c .before)) (l .t) (taskOf (l .places) (now (a .ends)) (l .dones) (now (a .counts)) (l .t)) (limitsOf (run (c .before)) (l .t)) (l .dones)
 one c = let a = c .before .before .before .args in
     let l = c .before .loop in
-    columns-one (a .tasks) (a .objects) (l .places) (now (a .ends)) (l .dones) (now (a .counts)) (l .inv .0 .dones-all) (l .t) (few c)
+    columns-one (a .tasks) (a .objects) (a .fields) (l .places) (now (a .ends)) (l .dones) (now (a .counts)) (l .inv .0 .dones-all) (l .t) (few c)
 
 -- what `visit` found, and the next step if the task may go
 visited : (c : tie.After-visit Inv-loop μ-loop) →
@@ -61,32 +61,32 @@ next c = visit-first _ _ (c .before .before .before .before .before .before .bef
 loop-holds : tie.Need-loop-holds Inv-loop μ-loop
 loop-holds c = (c .before .pre, omega arith, (λ u h. absurd (omega arith)), refl)
 
-mul-t17 : tie.Need-mul-t17 Inv-loop μ-loop
-mul-t17 c = omega (arith, few c)
+mul-t18 : tie.Need-mul-t18 Inv-loop μ-loop
+mul-t18 c = omega (arith, few c)
 
-element-copy-out-t20 : tie.Need-element-copy-out-t20 Inv-loop μ-loop
-element-copy-out-t20 c = few c
+element-copy-out-t21 : tie.Need-element-copy-out-t21 Inv-loop μ-loop
+element-copy-out-t21 c = few c
 
-mul-t21 : tie.Need-mul-t21 Inv-loop μ-loop
-mul-t21 c = omega (arith, few (c .before))
+mul-t22 : tie.Need-mul-t22 Inv-loop μ-loop
+mul-t22 c = omega (arith, few (c .before))
 
-element-copy-out-t24 : tie.Need-element-copy-out-t24 Inv-loop μ-loop
-element-copy-out-t24 c = few (c .before)
+element-copy-out-t25 : tie.Need-element-copy-out-t25 Inv-loop μ-loop
+element-copy-out-t25 c = few (c .before)
 
-mul-t25 : tie.Need-mul-t25 Inv-loop μ-loop
-mul-t25 c = omega (arith, few (c .before .before))
+mul-t26 : tie.Need-mul-t26 Inv-loop μ-loop
+mul-t26 c = omega (arith, few (c .before .before))
 
-element-copy-out-t28 : tie.Need-element-copy-out-t28 Inv-loop μ-loop
-element-copy-out-t28 c = few (c .before .before)
+element-copy-out-t29 : tie.Need-element-copy-out-t29 Inv-loop μ-loop
+element-copy-out-t29 c = few (c .before .before)
 
-mul-t29 : tie.Need-mul-t29 Inv-loop μ-loop
-mul-t29 c = omega (arith, few (c .before .before .before))
+mul-t30 : tie.Need-mul-t30 Inv-loop μ-loop
+mul-t30 c = omega (arith, few (c .before .before .before))
 
-element-copy-out-t32 : tie.Need-element-copy-out-t32 Inv-loop μ-loop
-element-copy-out-t32 c = few (c .before .before .before)
+element-copy-out-t33 : tie.Need-element-copy-out-t33 Inv-loop μ-loop
+element-copy-out-t33 c = few (c .before .before .before)
 
 visit-requires : tie.Need-visit-requires Inv-loop μ-loop
-visit-requires c κs = ((sound (c .before .before .before .before .before .before .before) .few-tasks, few (c .before .before .before .before .before .before .before), rw (columns-task _ _ _ _ _ _ _ (few (c .before .before .before .before .before .before .before))) at (sound (c .before .before .before .before .before .before .before) .task _ (c .before .before .before .before .before .before .before .loop-test .taken) .end)), own-note _ _ _ _ _ _ _ _ (one (c .before .before .before .before .before .before .before)) (c .before .before .before .before .before .before .before .before .loop .inv .0 .noted))
+visit-requires c κs = ((sound (c .before .before .before .before .before .before .before) .few-tasks, few (c .before .before .before .before .before .before .before), rw (columns-task _ _ _ _ _ _ _ _ (few (c .before .before .before .before .before .before .before))) at (sound (c .before .before .before .before .before .before .before) .task _ (c .before .before .before .before .before .before .before .loop-test .taken) .end)), own-note _ _ _ _ _ _ _ _ (one (c .before .before .before .before .before .before .before)) (c .before .before .before .before .before .before .before .before .loop .inv .0 .noted))
 
 enum-known-n : tie.Need-enum-known-n Inv-loop μ-loop
 enum-known-n c = search needs
@@ -99,7 +99,7 @@ element-write-places c = few (c .before .before .before .before .before .before 
 
 add-dones : tie.Need-add-dones Inv-loop μ-loop
 add-dones c =
-    let h = rw (columns-task _ _ _ _ _ _ _ (few (c .before .before .before .before .before .before .before .before .before .before .before .before))) at (ready-left (run (c .before .before .before .before .before .before .before .before .before .before .before .before .before)) (now (c .before .before .before .before .before .before .before .before .before .before .before .before .before .before .before .args .bytes)) _ (ready (c .before))) in
+    let h = rw (columns-task _ _ _ _ _ _ _ _ (few (c .before .before .before .before .before .before .before .before .before .before .before .before))) at (ready-left (run (c .before .before .before .before .before .before .before .before .before .before .before .before .before)) (now (c .before .before .before .before .before .before .before .before .before .before .before .before .before .before .before .args .bytes)) _ (ready (c .before))) in
     omega (arith, h, c .struct-known .given)
 
 mul-dones : tie.Need-mul-dones Inv-loop μ-loop
@@ -143,14 +143,14 @@ lowest-spec =
     Inv-loop
     μ-loop
     loop-holds
-    mul-t17
-    element-copy-out-t20
-    mul-t21
-    element-copy-out-t24
-    mul-t25
-    element-copy-out-t28
-    mul-t29
-    element-copy-out-t32
+    mul-t18
+    element-copy-out-t21
+    mul-t22
+    element-copy-out-t25
+    mul-t26
+    element-copy-out-t29
+    mul-t30
+    element-copy-out-t33
     visit-requires
     enum-known-n
     mul-places

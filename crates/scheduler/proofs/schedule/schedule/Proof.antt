@@ -18,8 +18,8 @@ use Rattle.scheduler.proofs.schedule.schedule.Tie as tie
 
 abbrev Inv-loop : tie.InvT-loop
 Inv-loop run bytes out₀ places₀ ends dones₀ counts scans₀ ats₀ steps₀ out places dones scans ats steps =
-    Columned bytes (run .tasks) (run .objects) places ends dones counts scans ats
-    × Writing bytes out₀ run out (runOf (run .tasks) (run .objects) places ends dones counts) steps
+    Columned bytes (run .tasks) (run .objects) (run .fields) places ends dones counts scans ats
+    × Writing bytes out₀ run out (runOf (run .tasks) (run .objects) (run .fields) places ends dones counts) steps
 
 abbrev μ-loop : tie.MeasureT-loop
 μ-loop run bytes out₀ places₀ ends dones₀ counts scans₀ ats₀ steps₀ out places dones scans ats steps =
@@ -27,14 +27,14 @@ abbrev μ-loop : tie.MeasureT-loop
 
 -- the run's array has 16 entries
 shaped : (c : tie.Start Inv-loop μ-loop) → Shaped (c .args .run)
-shaped c = sym (length-map (c .args .run .runs) _) ∙ c .good .0 .1 .1 .1 .1 .0 .1 .0 .1
+shaped c = sym (length-map (c .args .run .runs) _) ∙ c .good .0 .1 .1 .1 .1 .1 .0 .1 .0 .1
 
 -- the run at the loop's head, and after a task is found
 abbrev here : tie.At-loop Inv-loop μ-loop → Run
-here c = let k = c .before .before .before .before .before .columns-of .result in let r = c .before .before .before .before .before .before .before .before .before .before .args .run in runOf (r .tasks) (r .objects) (c .loop .places) (k .ends) (c .loop .dones) (k .counts)
+here c = let k = c .before .before .before .before .before .columns-of .result in let r = c .before .before .before .before .before .before .before .before .before .before .args .run in runOf (r .tasks) (r .objects) (r .fields) (c .loop .places) (k .ends) (c .loop .dones) (k .counts)
 
 abbrev after : tie.After-lowest Inv-loop μ-loop → Run
-after c = let k = c .before .before .before .before .before .before .before .before .before .before .before .before .before .columns-of .result in let r = c .before .before .before .before .before .before .before .before .before .before .before .before .before .before .before .before .before .before .args .run in runOf (r .tasks) (r .objects) (c .lowest .last .1 .1 .1 .0) (k .ends) (c .lowest .last .1 .1 .1 .1 .1 .0) (k .counts)
+after c = let k = c .before .before .before .before .before .before .before .before .before .before .before .before .before .columns-of .result in let r = c .before .before .before .before .before .before .before .before .before .before .before .before .before .before .before .before .before .before .args .run in runOf (r .tasks) (r .objects) (r .fields) (c .lowest .last .1 .1 .1 .1 .0) (k .ends) (c .lowest .last .1 .1 .1 .1 .1 .1 .0) (k .counts)
 
 found : (c : tie.After-known-told Inv-loop μ-loop) →
     let g = c .before .n .given .0 in
