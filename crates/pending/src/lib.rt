@@ -13,11 +13,11 @@ pub struct TaskRun {
     pub count: usize,
 }
 
-// The state of a replay: T, N, the number of fields and the tasks. The number of fields says which head the recording has: 0 for head 1, where
-// an object is a single cell, else F. Entries from T on have no meaning. The blank run is all zero.
+// The state of a replay: T, N, the tasks and the number of fields, which says which head the recording has: 0 for head 1, where an object is a single
+// cell, else F. Entries from T on have no meaning. The blank run is all zero.
 pub struct Run {
     pub tasks: usize,
     pub objects: usize,
-    pub fields: usize,
     pub runs: [TaskRun; TASKS],
+    pub fields: usize,
 }

@@ -1,12 +1,17 @@
 // Plays a run, always the lowest ready task, until a step is not taken; and whether a run has finished.
 ghost use mathlib.Core.Path.{_≡_};
+ghost use mathlib.Core.Bool.{true, cond};
 ghost use Prim.Native.Nat.{_<_};
+ghost use Rattle.codec.specs.Kind.{writes as writesKind};
+ghost use Rattle.replayer.specs.Memory.{performed, agrees as agreesWith};
 ghost use Rattle.entries.specs.Reading.{stop};
 ghost use Rattle.scheduler.specs.Laws.Columns.{allDoneOf};
 ghost use Rattle.scheduler.specs.Finish.{leftOver, finishOf};
 ghost use Rattle.playback.specs.Shown.{shownPlay, finishedCall};
 ghost use Rattle.scheduler.specs.Laws.Finish.{Playing};
+use codec::Op;
 use codec::cell::op_cell;
+use codec::kind::access_kind;
 use codec::limit::TASKS;
 use codec::limit::least;
 use codec::number::DIFFERS;
@@ -56,6 +61,24 @@ fn result_of(
     }
 }
 
+// Does an access on the memory if the memory agrees with it, and says whether. `write` is the kind of a write under the recording's head: one comparison
+// tells reads from writes, which cannot be predicted, and for the five kinds of accesses the compiler would jump by a table.
+fn taken(write: u16, op: Op, cell: usize, memory: &mut [u32]) -> bool
+    requires { ⌜ writesKind write ≡ true ⌝ }
+    ensures { λ r. ⌜ r ≡ agreesWith cell op (now (memory .entry)) ⌝ }
+    ensures { λ r. ⌜ now (memory .exit) ≡ cond (agreesWith cell op (now (memory .entry))) (performed cell op (now (memory .entry))) (now (memory .entry)) ⌝ }
+{
+    if op.kind == write {
+        perform(op, cell, memory);
+        return true;
+    }
+    if !agrees(op, cell, memory) {
+        return false;
+    }
+    perform(op, cell, memory);
+    true
+}
+
 // As long as a task is ready, the lowest one is stepped and its access is done on the memory, if the memory agrees with it. Each step
 // leaves one access fewer, so the loop ends and the number of steps fits its type.
 pub(crate) fn finish(run: Run, bytes: &[u8], memory: &mut [u32]) -> Played
@@ -72,6 +95,7 @@ pub(crate) fn finish(run: Run, bytes: &[u8], memory: &mut [u32]) -> Played
     let mut scans = [0usize; TASKS];
     let mut ats = [0usize; TASKS];
     let mut steps: usize = 0;
+    let write = access_kind(run.fields, true);
     loop {
         let n = lowest(
             run.tasks,
@@ -90,11 +114,10 @@ pub(crate) fn finish(run: Run, bytes: &[u8], memory: &mut [u32]) -> Played
             return result_of(run.tasks, run.objects, steps, done, 0, 0);
         };
         let cell = op_cell(run.fields, op);
-        if !agrees(op, cell, memory) {
+        if !taken(write, op, cell, memory) {
             let at = record_at(op, places[task]);
             return result_of(run.tasks, run.objects, steps, false, DIFFERS, at);
         }
-        perform(op, cell, memory);
         steps += 1;
     }
 }

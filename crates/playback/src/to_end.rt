@@ -11,9 +11,10 @@ use crate::finish::finish;
 use codec::cell::cells_of;
 use codec::number::ENTRIES;
 use entries::Checked;
+use reader::head::set_starting;
 use reader::layout::Layout;
 use reader::layout::locate;
-use replayer::start::begin;
+use replayer::start::started;
 
 // As in `Played`: a run that has neither finished nor been stopped is stuck.
 pub struct Replayed {
@@ -45,7 +46,8 @@ pub(crate) fn play(bytes: &[u8], l: Layout, memory: &mut [u32]) -> Played
     ensures { λ r. ⌜ r ≡ shownPlay (now (bytes .entry)) (playOf (now (bytes .entry)) (now (memory .entry))) ⌝ }
     ensures { λ r. ⌜ now (memory .exit) ≡ playOf (now (bytes .entry)) (now (memory .entry)) .memory ⌝ }
 {
-    let run = begin(bytes, l, memory);
+    set_starting(bytes, l.fields, l.objects, memory);
+    let run = started(l);
     finish(run, bytes, memory)
 }
 

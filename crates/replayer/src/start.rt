@@ -1,6 +1,5 @@
 // What opening sets: the memory to the starting values, each task to the start of its body.
 ghost use mathlib.Core.Path.{_≡_};
-ghost use Rattle.reader.specs.Starting.{startingIn};
 ghost use Rattle.replayer.specs.OpenOf.{startsOf, begunOf, refusedOpen};
 ghost use Rattle.replayer.specs.OpenedOf.{counted};
 ghost use Rattle.pending.specs.Run.{blankTasks};
@@ -10,7 +9,6 @@ use codec::limit::least;
 use pending::Run;
 use pending::TaskRun;
 use reader::Span;
-use reader::head::set_starting;
 use reader::layout::Layout;
 
 fn blank_tasks() -> [TaskRun; TASKS]
@@ -56,16 +54,6 @@ pub fn started(l: Layout) -> Run
         fields: l.fields,
         runs,
     }
-}
-
-// The run at the start of a layout, with the memory set. For a layout that `locate` found and a memory with an entry for each cell, this is
-// the opening.
-pub fn begin(bytes: &[u8], l: Layout, memory: &mut [u32]) -> Run
-    ensures { λ r. ⌜ r ≡ begunOf l ⌝ }
-    ensures { λ r. ⌜ now (memory .exit) ≡ startingIn (l .fields) (l .objects) (now (bytes .entry)) (now (memory .entry)) ⌝ }
-{
-    set_starting(bytes, l.fields, l.objects, memory);
-    started(l)
 }
 
 // A refused opening: the blank run.

@@ -6,7 +6,6 @@ ghost use Rattle.scheduler.specs.Laws.Lowest.{lowestOf, afterOf};
 use crate::visit::visit;
 use codec::Op;
 use codec::limit::TASKS;
-use entries::Limits;
 use pending::TaskRun;
 use pending::next::Next;
 
@@ -17,7 +16,7 @@ pub enum NextStep {
 }
 
 // Tests the tasks from 0 on until one may go: it moves on to the place after its access, with one more done. What was found about the
-// waiting tasks is kept in the notes.
+// waiting tasks is kept in the notes. The access is rebuilt from its fields: as a whole it was copied by loads that wait for several stores.
 pub fn lowest(
     tasks: usize,
     objects: usize,
@@ -43,17 +42,19 @@ pub fn lowest(
             done: dones[t],
             count: counts[t],
         };
-        let limits = Limits {
-            tasks,
-            objects,
-            fields,
-            own: t,
-        };
-        let n = visit(x, bytes, limits, dones, scans, ats);
+        let n = visit(x, bytes, tasks, objects, fields, t, dones, scans, ats);
         if let Next::Open { op, next } = n {
             places[t] = next;
             dones[t] = x.done + 1;
-            return NextStep::Ready { task: t, op };
+            return NextStep::Ready {
+                task: t,
+                op: Op {
+                    kind: op.kind,
+                    object: op.object,
+                    field: op.field,
+                    value: op.value,
+                },
+            };
         }
     }
     NextStep::Stopped

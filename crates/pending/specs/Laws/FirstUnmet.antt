@@ -56,6 +56,19 @@ ahead-later m b dones later from end place at g w = record {
   passed = λ runs d. w .passed runs (λ s h. omega (arith, g s h, d s h));
 }
 
+-- a group that is looked at again from where the scan got
+pub ahead-onward : (m : Limits) (b dones : List ℕ) (from end place at later stands : ℕ) → Ahead m b dones from end place at → Ahead m b dones place end later stands
+    → Ahead m b dones from end later stands
+ahead-onward m b dones from end place at later stands w v = record {
+  few = v .few;
+  within = v .within;
+  entry = v .entry;
+  reads = v .reads;
+  stands = v .stands;
+  same = λ runs d. v .same runs d ∙ w .same runs d;
+  passed = λ runs d. v .passed runs d ∙ w .passed runs d;
+}
+
 -- if anything is ready to be done, it is the access that was found
 found-open : (runs : List TaskRun) (from : ℕ) (x : Reading Entry) (o : Op) (a n : ℕ) → found from x ≡ FoundAccess o a n → isOpen (judged runs from x) ≡ true
     → Open o n ≡ judged runs from x

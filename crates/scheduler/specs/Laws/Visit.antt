@@ -25,7 +25,7 @@ use Rattle.pending.specs.Laws.Moved.{Shaped, moved-own, moved-other, moved-task
 use Rattle.pending.specs.Next.{entryNext, nextOf, isOpen}
 use Rattle.pending.specs.Laws.Next.{judged-open, next-entry}
 use Rattle.pending.specs.FirstUnmet.{Ahead}
-use Rattle.pending.specs.Laws.FirstUnmet.{done-all, ahead-later}
+use Rattle.pending.specs.Laws.FirstUnmet.{done-all, ahead-later, ahead-rest, ahead-onward}
 use Rattle.replayer.specs.ReadyOf.{isReady}
 use Rattle.pending.specs.Run.{taskAt, limitsOf, movedOf}
 
@@ -45,6 +45,20 @@ pub record Visited (r : Run) (b : List ℕ) (t : ℕ) (scans ats : List ℕ) (n 
   pub ready : isReady r b t ≡ isOpen n
   pub opens : (op : Op) (next : ℕ) → n ≡ Open op next → nextOf r b t ≡ Open op next
   pub noted : Noted r b scans ats
+
+-- a place from which a task's group may be looked at: what is found from there is found from the group's start, and its note is the task's
+pub record Resumed (m : Limits) (b dones : List ℕ) (x : TaskRun) (from : ℕ) : Type 0 where
+  pub looks : (n : Next) → Looks dones from (groupAt m b from (x .end)) n → Looks dones (x .place) (groupAt m b (x .place) (x .end)) n
+  pub note : (scan at : ℕ) → (0 < at → Ahead m b dones from (x .end) scan at) → Note m b dones x scan at
+
+pub resumed-first : (m : Limits) (b dones : List ℕ) (x : TaskRun) → Resumed m b dones x (x .place)
+resumed-first m b dones x = record { looks = λ n k. k; note = λ scan at k h. k (omega (arith, h)) }
+
+pub resumed-ahead : (m : Limits) (b dones : List ℕ) (x : TaskRun) (from at : ℕ) → Ahead m b dones (x .place) (x .end) from at → Resumed m b dones x from
+resumed-ahead m b dones x from at w = record {
+  looks = ahead-rest m b dones (x .place) (x .end) from at w;
+  note = λ scan stands k h. ahead-onward m b dones (x .place) (x .end) from at scan stands w (k (omega (arith, h)));
+}
 
 -- one more task that is not ready
 pub none-more : (r : Run) (b : List ℕ) (t : ℕ) → ((s : ℕ) → s < t → isReady r b s ≡ false) → isReady r b t ≡ false → (s : ℕ) → s < t + 1 → isReady r b s ≡ false

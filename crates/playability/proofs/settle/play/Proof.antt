@@ -22,7 +22,7 @@ abbrev μ-loop : tie.MeasureT-loop
 
 -- the run's array has 16 entries
 shaped : (c : tie.Start Inv-loop μ-loop) → Shaped (c .args .run)
-shaped c = sym (length-map (c .args .run .runs) _) ∙ c .good .0 .1 .1 .1 .1 .1 .0 .1 .0 .1
+shaped c = sym (length-map (c .args .run .runs) _) ∙ c .good .0 .1 .1 .1 .1 .0 .1 .0 .1
 
 -- the run at the loop's head, and after a task is found
 abbrev here : tie.At-loop Inv-loop μ-loop → Run

@@ -23,7 +23,7 @@ all-done-requires c κs = search needs
 
 -- the run's array has 16 entries
 shaped : (c : tie.Start) → Shaped (c .args .run)
-shaped c = sym (length-map (c .args .run .runs) _) ∙ c .good .0 .1 .1 .1 .1 .1 .0 .1 .0 .1
+shaped c = sym (length-map (c .args .run .runs) _) ∙ c .good .0 .1 .1 .1 .1 .0 .1 .0 .1
 
 returns-2 : tie.Need-returns-2
 unfolding finishedCall

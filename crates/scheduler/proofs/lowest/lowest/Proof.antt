@@ -49,7 +49,7 @@ one c = let a = c .before .before .before .args in
 
 -- what `visit` found, and the next step if the task may go
 visited : (c : tie.After-visit Inv-loop μ-loop) →
-    Visited (run (c .before .before .before .before .before .before .before .before .before)) (now (c .before .before .before .before .before .before .before .before .before .before .before .args .bytes)) (c .before .before .before .before .before .before .before .before .before .loop .t) (c .visit .last .1 .1 .1 .1 .0) (c .visit .last .1 .1 .1 .1 .1 .0) (c .visit .result)
+    Visited (run (c .before .before .before .before .before .before .before .before .before)) (now (c .before .before .before .before .before .before .before .before .before .before .before .args .bytes)) (c .before .before .before .before .before .before .before .before .before .loop .t) (c .visit .last .1 .1 .1 .1 .1 .1 .1 .0) (c .visit .last .1 .1 .1 .1 .1 .1 .1 .1 .0) (c .visit .result)
 visited c = c .visit .ensures (run (c .before .before .before .before .before .before .before .before .before)) (one (c .before .before .before .before .before .before .before .before)) (c .before .before .before .before .before .before .before .before .before .loop .inv .0 .noted)
 
 ready : (c : tie.After-known-told Inv-loop μ-loop) → isReady (run (c .before .before .before .before .before .before .before .before .before .before .before .before)) (now (c .before .before .before .before .before .before .before .before .before .before .before .before .before .before .args .bytes)) (c .before .before .before .before .before .before .before .before .before .before .before .before .loop .t) ≡ true
@@ -61,29 +61,29 @@ next c = visit-first _ _ (c .before .before .before .before .before .before .bef
 loop-holds : tie.Need-loop-holds Inv-loop μ-loop
 loop-holds c = (c .before .pre, omega arith, (λ u h. absurd (omega arith)), refl)
 
-mul-t18 : tie.Need-mul-t18 Inv-loop μ-loop
-mul-t18 c = omega (arith, few c)
+mul-t17 : tie.Need-mul-t17 Inv-loop μ-loop
+mul-t17 c = omega (arith, few c)
 
-element-copy-out-t21 : tie.Need-element-copy-out-t21 Inv-loop μ-loop
-element-copy-out-t21 c = few c
+element-copy-out-t20 : tie.Need-element-copy-out-t20 Inv-loop μ-loop
+element-copy-out-t20 c = few c
 
-mul-t22 : tie.Need-mul-t22 Inv-loop μ-loop
-mul-t22 c = omega (arith, few (c .before))
+mul-t21 : tie.Need-mul-t21 Inv-loop μ-loop
+mul-t21 c = omega (arith, few (c .before))
 
-element-copy-out-t25 : tie.Need-element-copy-out-t25 Inv-loop μ-loop
-element-copy-out-t25 c = few (c .before)
+element-copy-out-t24 : tie.Need-element-copy-out-t24 Inv-loop μ-loop
+element-copy-out-t24 c = few (c .before)
 
-mul-t26 : tie.Need-mul-t26 Inv-loop μ-loop
-mul-t26 c = omega (arith, few (c .before .before))
+mul-t25 : tie.Need-mul-t25 Inv-loop μ-loop
+mul-t25 c = omega (arith, few (c .before .before))
 
-element-copy-out-t29 : tie.Need-element-copy-out-t29 Inv-loop μ-loop
-element-copy-out-t29 c = few (c .before .before)
+element-copy-out-t28 : tie.Need-element-copy-out-t28 Inv-loop μ-loop
+element-copy-out-t28 c = few (c .before .before)
 
-mul-t30 : tie.Need-mul-t30 Inv-loop μ-loop
-mul-t30 c = omega (arith, few (c .before .before .before))
+mul-t29 : tie.Need-mul-t29 Inv-loop μ-loop
+mul-t29 c = omega (arith, few (c .before .before .before))
 
-element-copy-out-t33 : tie.Need-element-copy-out-t33 Inv-loop μ-loop
-element-copy-out-t33 c = few (c .before .before .before)
+element-copy-out-t32 : tie.Need-element-copy-out-t32 Inv-loop μ-loop
+element-copy-out-t32 c = few (c .before .before .before)
 
 visit-requires : tie.Need-visit-requires Inv-loop μ-loop
 visit-requires c κs = ((sound (c .before .before .before .before .before .before .before) .few-tasks, few (c .before .before .before .before .before .before .before), rw (columns-task _ _ _ _ _ _ _ _ (few (c .before .before .before .before .before .before .before))) at (sound (c .before .before .before .before .before .before .before) .task _ (c .before .before .before .before .before .before .before .loop-test .taken) .end)), own-note _ _ _ _ _ _ _ _ (one (c .before .before .before .before .before .before .before)) (c .before .before .before .before .before .before .before .before .loop .inv .0 .noted))
@@ -143,14 +143,14 @@ lowest-spec =
     Inv-loop
     μ-loop
     loop-holds
-    mul-t18
-    element-copy-out-t21
-    mul-t22
-    element-copy-out-t25
-    mul-t26
-    element-copy-out-t29
-    mul-t30
-    element-copy-out-t33
+    mul-t17
+    element-copy-out-t20
+    mul-t21
+    element-copy-out-t24
+    mul-t25
+    element-copy-out-t28
+    mul-t29
+    element-copy-out-t32
     visit-requires
     enum-known-n
     mul-places
