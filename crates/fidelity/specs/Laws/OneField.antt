@@ -9,7 +9,7 @@ use native.Mathlib.Decide.{ℕ-discrete, decLe}
 use lib.Dec.{eqb}
 use lib.ListN.{length}
 use borrow.Author.Tests.{eq-eqb, ne-eqb}
-use Rattle.codec.specs.Cell.{widthOf, cellsOf, cellOf}
+use Rattle.codec.specs.Cell.{widthOf, cellsOf, cellOf, objectAt}
 use Rattle.codec.specs.Number.{noRoom}
 use Rattle.history.specs.Entry.{Entry}
 use Rattle.history.specs.History.{History}
@@ -209,7 +209,7 @@ calls-same b c w g h e (Call.access x ∷ calls) (Call.access y ∷ others) s p 
 
 -- the two openings
 cells-same : (owners : List ℕ) (n : ℕ) → ownedCells owners 1 n ≡ ownedCells owners 0 n
-unfolding ownedCells widthOf
+unfolding ownedCells objectAt widthOf
 cells-same owners zero = refl
 cells-same owners (suc n) = rw (cells-same owners n)
 

@@ -42,7 +42,7 @@ use Rattle.fidelity.specs.Box.{recordedFrom}
 use Rattle.fidelity.specs.Bench.{steppedAll, tally as tallySteps, tallyOf}
 use Rattle.fidelity.specs.RunA.{opening, calls, outs, lent}
 use Rattle.fidelity.specs.Statement.{StaysAt, MemoryAt}
-use Rattle.codec.specs.Cell.{widthOf, cellsOf, cellOf}
+use Rattle.codec.specs.Cell.{widthOf, cellsOf, cellOf, objectAt}
 use Rattle.codec.specs.Head.{headStep, headSize, fieldsOf}
 
 -- memory at the start and after one step, and then a refused step of task 0. A replay that plays everything at opening would have 9 and 9
@@ -53,5 +53,5 @@ pub record Stood : Type 0 where
   pub refused : StaysAt opening calls outs lent (0 ∷ []) 0
 
 pub stood : Stood
-unfolding openBy opened openNumber entriesOk allBelow openedState ownedCells cellsOf cellOf widthOf outcome called calledAll packed accessOf accessNumber checked accepted refused soundOf lastSound taskSound tasksSound cellSound sumOf isWithin allBelow-tracker-range rowOf orderingsOf everyDone written leftOut stateAfter localityAfter effectOf classOf store orderingsBytes entryBytes ordering access accessKind reads writes hasField storesValue isValuedRead start startTwo le2 le4 headKindOf headStep headSize fieldsOf fieldsBytes headFront head valueBytes headObject headObjects section sectionOf sectionChecked logChecked walkOf judged tally bodyEntries bodyFrom entryAt entryFrom onRecord accessOf-reader-entry accessNumber-entries-entry standsUnder orderingOk recordOf isHead widthAt headOf sectionOf-codec-decode opAt bodyOf-codec-decode field2 field4 checkedOf parse headAt onHead sectionsAfter sectionsOf sectionAt onSection sectionBody taken ownersOf valuesAt valuesOf sizesOk bodyBytes sectionsBytes bytesOf part allFrom taskSound-replayer-sound soundOf-replayer-sound allMet movedOf entryNext judged-replayer-next nextOf-replayer-next wordOf isReady readyOf startsOf onParse openOf-replayer-openof earlyNumber onNext stepOf recordedFrom steppedAll tallySteps tallyOf memoryOf count recordedOrder
+unfolding openBy opened openNumber entriesOk allBelow openedState ownedCells objectAt cellsOf cellOf widthOf outcome called calledAll packed accessOf accessNumber checked accepted refused soundOf lastSound taskSound tasksSound cellSound sumOf isWithin allBelow-tracker-range rowOf orderingsOf everyDone written leftOut stateAfter localityAfter effectOf classOf store orderingsBytes entryBytes ordering access accessKind reads writes hasField storesValue isValuedRead start startTwo le2 le4 headKindOf headStep headSize fieldsOf fieldsBytes headFront head valueBytes headObject headObjects section sectionOf sectionChecked logChecked walkOf judged tally bodyEntries bodyFrom entryAt entryFrom onRecord accessOf-reader-entry accessNumber-entries-entry standsUnder orderingOk recordOf isHead widthAt headOf sectionOf-codec-decode opAt bodyOf-codec-decode field2 field4 checkedOf parse headAt onHead sectionsAfter sectionsOf sectionAt onSection sectionBody taken ownersOf valuesAt valuesOf sizesOk bodyBytes sectionsBytes bytesOf part allFrom taskSound-replayer-sound soundOf-replayer-sound allMet movedOf entryNext judged-replayer-next nextOf-replayer-next wordOf isReady readyOf startsOf onParse openOf-replayer-openof earlyNumber onNext stepOf recordedFrom steppedAll tallySteps tallyOf memoryOf count recordedOrder
 stood = record { first = refl; second = refl; refused = refl }

@@ -5,7 +5,7 @@ use native.Mathlib.Omega.{arith}
 use lib.ListN.{length, length-set}
 use denote.Ref.{now}
 use Rattle.codec.specs.Cell.{widthOf}
-use Rattle.codec.specs.Laws.Cell.{width-some, cells-few}
+use Rattle.codec.specs.Laws.Cell.{width-some, cells-few, object-is}
 use Rattle.codec.specs.Limit.{maxCells}
 use Rattle.tracker.specs.Opened.{ownedCells}
 use Rattle.tracker.specs.Laws.Opened.{cells-none, cells-more, object-below}
@@ -22,7 +22,7 @@ abbrev μ-loop : tie.MeasureT-loop
 
 -- the cell's object has an owner, and the cell has a record
 has-owner : (c : tie.In-loop Inv-loop μ-loop) → c .before .loop .i / widthOf (c .before .before .before .before .before .args .fields) < length (now (c .before .before .before .before .before .args .owners))
-has-owner c = object-below (c .before .before .before .before .before .args .fields) (length (now (c .before .before .before .before .before .args .owners))) (c .before .loop .i) (rw (c .before .before .cells-of .ensures) at (c .loop-test .taken))
+has-owner c = rw (object-is (c .before .before .before .before .before .args .fields) (c .before .loop .i)) at (object-below (c .before .before .before .before .before .args .fields) (length (now (c .before .before .before .before .before .args .owners))) (c .before .loop .i) (rw (c .before .before .cells-of .ensures) at (c .loop-test .taken)))
 
 has-record : (c : tie.In-loop Inv-loop μ-loop) → c .before .loop .i < maxCells
 has-record c =
@@ -59,7 +59,7 @@ loop-less : tie.Need-loop-less Inv-loop μ-loop
 loop-less c = search needs
 
 loop-again : tie.Need-loop-again Inv-loop μ-loop
-loop-again c = let l = c .before .before .loop in (omega arith, simp length-set (l .inv .1), rw (cells-more (now (c .before .before .before .before .before .before .args .owners)) (c .before .before .before .before .before .before .args .fields) (l .i), l .inv .2, c .before .before .before .before .width-of .ensures))
+loop-again c = let l = c .before .before .loop in (omega arith, simp length-set (l .inv .1), rw (cells-more (now (c .before .before .before .before .before .before .args .owners)) (c .before .before .before .before .before .before .args .fields) (l .i), object-is, l .inv .2, c .before .before .before .before .width-of .ensures))
 
 returns : tie.Need-returns Inv-loop μ-loop
 returns c = let l = c .before .loop in rw (le-antisymm (l .inv .0) (c .loop-test .left), c .before .before .cells-of .ensures) at (l .inv .2)

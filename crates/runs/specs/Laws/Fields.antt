@@ -5,7 +5,7 @@ use Rattle.codec.specs.Field.{le2, le4, field2, field4}
 use Rattle.codec.specs.Kind.{isHead, hasField, storesValue, standsUnder, accessKind, headKindOf}
 use Rattle.codec.specs.Decode.{recordOf, widthAt, headOf, sectionOf as sectionRecordOf, opAt, bodyOf}
 use Rattle.codec.specs.Store.{store}
-use Rattle.codec.specs.Cell.{widthOf, cellsOf, cellOf}
+use Rattle.codec.specs.Cell.{widthOf, cellsOf, cellOf, objectAt}
 use Rattle.codec.specs.Head.{headStep, headSize, fieldsOf}
 use Rattle.entries.specs.Bytes.{orderingsBytes, entryBytes}
 use Rattle.entries.specs.Entry.{orderingOk, accessNumber as entryNumber, accessOf as accessRecordOf, onRecord, entryFrom, entryAt as readEntry}
@@ -30,7 +30,7 @@ use Rattle.runs.specs.Rows.{trackedBy}
 use Rattle.runs.specs.Fields.{Fields}
 
 pub fields : Fields
-unfolding trackedBy openBy opened openNumber entriesOk allBelow openedState ownedCells cellsOf cellOf widthOf outcome called calledAll packed accessOf accessNumber checked accepted refused soundOf lastSound taskSound tasksSound cellSound sumOf isWithin allPass rowOf orderingsOf everyDone written leftOut stateAfter localityAfter effectOf classOf store orderingsBytes entryBytes ordering access accessKind hasField storesValue start startTwo le2 le4 headKindOf headStep headSize fieldsOf fieldsBytes headFront head valueBytes headObject headObjects section sectionOf sectionChecked logChecked walkOf judged tally bodyEntries bodyFrom readEntry entryFrom onRecord accessRecordOf entryNumber standsUnder orderingOk recordOf isHead widthAt headOf sectionRecordOf opAt bodyOf field2 field4 checkedOf parse headAt onHead sectionsAfter sectionsOf sectionAt onSection sectionBody taken ownersOf valuesAt valuesOf sizesOk
+unfolding trackedBy openBy opened openNumber entriesOk allBelow openedState ownedCells objectAt cellsOf cellOf widthOf outcome called calledAll packed accessOf accessNumber checked accepted refused soundOf lastSound taskSound tasksSound cellSound sumOf isWithin allPass rowOf orderingsOf everyDone written leftOut stateAfter localityAfter effectOf classOf store orderingsBytes entryBytes ordering access accessKind hasField storesValue start startTwo le2 le4 headKindOf headStep headSize fieldsOf fieldsBytes headFront head valueBytes headObject headObjects section sectionOf sectionChecked logChecked walkOf judged tally bodyEntries bodyFrom readEntry entryFrom onRecord accessRecordOf entryNumber standsUnder orderingOk recordOf isHead widthAt headOf sectionRecordOf opAt bodyOf field2 field4 checkedOf parse headAt onHead sectionsAfter sectionsOf sectionAt onSection sectionBody taken ownersOf valuesAt valuesOf sizesOk
 fields = record {
   apart = refl;
   together = refl;

@@ -2,7 +2,7 @@
 use mathlib.Core.Path.{refl}
 use Rattle.codec.specs.Decode.{recordOf, widthAt, headOf, sectionOf as sectionOf-codec-decode, opAt, bodyOf as bodyOf-codec-decode}
 use Rattle.codec.specs.Encode.{ordering, access, start, startTwo, fieldsBytes, headFront, head, valueBytes, headObject, headObjects, section}
-use Rattle.codec.specs.Cell.{widthOf, cellsOf, cellOf}
+use Rattle.codec.specs.Cell.{widthOf, cellsOf, cellOf, objectAt}
 use Rattle.codec.specs.Head.{headStep, headSize, fieldsOf}
 use Rattle.codec.specs.Field.{le2, le4, field2, field4}
 use Rattle.codec.specs.Kind.{isHead, reads, writes, hasField, storesValue, isValuedRead, standsUnder, accessKind, headKindOf}
@@ -41,5 +41,5 @@ use Rattle.fidelity.specs.Bench.{steppedAll, tally as tallySteps}
 use Rattle.runs.specs.Whole.{Whole}
 
 pub whole : Whole
-unfolding openBy opened openNumber entriesOk allBelow openedState ownedCells cellsOf cellOf widthOf outcome called calledAll packed accessOf accessNumber checked accepted refused soundOf lastSound taskSound tasksSound cellSound sumOf isWithin allBelow-tracker-range rowOf orderingsOf everyDone written leftOut stateAfter localityAfter effectOf classOf store orderingsBytes entryBytes ordering access accessKind reads writes hasField storesValue isValuedRead start startTwo le2 le4 headKindOf headStep headSize fieldsOf fieldsBytes headFront head valueBytes headObject headObjects section sectionOf sectionChecked logChecked walkOf judged tally bodyEntries bodyFrom entryAt entryFrom onRecord accessOf-reader-entry accessNumber-reader-entry standsUnder orderingOk recordOf isHead widthAt headOf sectionOf-codec-decode opAt bodyOf-codec-decode field2 field4 checkedOf parse headAt onHead sectionsAfter sectionsOf sectionAt onSection sectionBody taken ownersOf valuesAt valuesOf sizesOk bodyBytes sectionsBytes bytesOf part allFrom taskSound-replayer-sound soundOf-replayer-sound allMet movedOf entryNext judged-replayer-next nextOf-replayer-next wordOf isReady readyOf startsOf onParse openOf-replayer-openof earlyNumber onNext stepOf recordedFrom steppedAll tallySteps
+unfolding openBy opened openNumber entriesOk allBelow openedState ownedCells objectAt cellsOf cellOf widthOf outcome called calledAll packed accessOf accessNumber checked accepted refused soundOf lastSound taskSound tasksSound cellSound sumOf isWithin allBelow-tracker-range rowOf orderingsOf everyDone written leftOut stateAfter localityAfter effectOf classOf store orderingsBytes entryBytes ordering access accessKind reads writes hasField storesValue isValuedRead start startTwo le2 le4 headKindOf headStep headSize fieldsOf fieldsBytes headFront head valueBytes headObject headObjects section sectionOf sectionChecked logChecked walkOf judged tally bodyEntries bodyFrom entryAt entryFrom onRecord accessOf-reader-entry accessNumber-reader-entry standsUnder orderingOk recordOf isHead widthAt headOf sectionOf-codec-decode opAt bodyOf-codec-decode field2 field4 checkedOf parse headAt onHead sectionsAfter sectionsOf sectionAt onSection sectionBody taken ownersOf valuesAt valuesOf sizesOk bodyBytes sectionsBytes bytesOf part allFrom taskSound-replayer-sound soundOf-replayer-sound allMet movedOf entryNext judged-replayer-next nextOf-replayer-next wordOf isReady readyOf startsOf onParse openOf-replayer-openof earlyNumber onNext stepOf recordedFrom steppedAll tallySteps
 whole = record { size = refl; first-word = refl; second-word = refl; held = refl; end-word = refl; end-memory = refl; end-taken = refl }

@@ -2,17 +2,16 @@
 use mathlib.Core.Bool.{true}
 use mathlib.Core.List.{List}
 use mathlib.Core.Logic.{⊎-elim}
-use mathlib.Core.Path.{_≡_, refl, ap}
-use Prim.Native.Nat.{ℕ, zero, suc, _+_, _/_, _≤_, _<_}
+use mathlib.Core.Path.{_≡_, refl, ap, _∙_}
+use Prim.Native.Nat.{ℕ, zero, suc, _+_, _≤_, _<_}
 use native.Mathlib.Nat.{eq-or-lt-of-le, le-of-suc-le-suc, div-lt-iff-lt-mul}
 use native.Mathlib.Numerals.{add-one}
 use native.Mathlib.Omega.{arith}
-use lib.Arith.{digits-div}
 use lib.ListN.{length, getD, set, replicate, length-set, length-replicate}
 use lib.Seq.{getD-set-same, getD-set-other}
 use Rattle.codec.specs.Laws.Zeros.{zeros-at}
-use Rattle.codec.specs.Cell.{widthOf, cellsOf, cellOf}
-use Rattle.codec.specs.Laws.Cell.{width-some, cell-below, cells-few}
+use Rattle.codec.specs.Cell.{widthOf, cellsOf, cellOf, objectAt}
+use Rattle.codec.specs.Laws.Cell.{width-some, cell-below, cells-few, object-is, object-back}
 use Rattle.codec.specs.Limit.{maxTasks, maxObjects, maxFields, maxCells}
 use Rattle.tracker.specs.State.{owned, doneOf, cellCount, localityOf, holderOf}
 use Rattle.tracker.specs.Laws.State.{Shaped}
@@ -64,9 +63,9 @@ module _ (owners : List ℕ) (fields : ℕ) where
       (eq-or-lt-of-le (le-of-suc-le-suc k))
 
 -- the object of a cell
-pub object-below : (fields objects cell : ℕ) → cell < cellsOf fields objects → cell / widthOf fields < objects
+pub object-below : (fields objects cell : ℕ) → cell < cellsOf fields objects → objectAt fields cell < objects
 unfolding cellsOf
-object-below fields objects cell h = div-lt-iff-lt-mul (width-some fields) .1 h
+object-below fields objects cell h = rw (object-is fields cell) (div-lt-iff-lt-mul (width-some fields) .1 h)
 
 module _ (tasks objects fields : ℕ) (owners : List ℕ) where
   pub opened-shaped : Shaped (openedState tasks objects fields owners)
@@ -97,8 +96,8 @@ module _ (tasks objects fields : ℕ) (owners : List ℕ) where
     -- each field of an object is first held by the object's owner
     pub opened-field : (object field : ℕ) → object < objects → field < widthOf fields
         → localityOf (openedState tasks objects fields owners) (cellOf fields object field) ≡ WriteExclusive (getD owners object 0)
-    unfolding cellOf
-    opened-field object field h k = rw (opened-owner (cellOf fields object field) (cell-below fields objects object field h k), digits-div object k)
+    opened-field object field h k =
+        opened-owner (cellOf fields object field) (cell-below fields objects object field h k) ∙ ap (λ (o : ℕ). WriteExclusive (getD owners o 0)) (object-back fields object field k)
 
     -- an opening with T, N, F and the owners in range is sound
     pub opened-facts : Sound (openedState tasks objects fields owners)
