@@ -46,3 +46,8 @@ store-copied l bytes part at h e =
     let w : take (length l - at) (drop at l) ≡ drop at l = rw (← n) (take-length (drop at l)) in
     rw (e, z, w, take-length bytes, drop-drop (length bytes) at l, append-nil, ← append_assoc (take at l) bytes (drop (at + length bytes) l))
     (sym (store_split l at bytes h))
+
+-- a part of the same length put in place of the part that begins at an index
+pub store-put : (l bytes : List ℕ) (at n : ℕ) → at + length bytes ≤ length l → n ≡ length bytes
+    → take at l ++ (bytes ++ drop n (drop at l)) ≡ store l at bytes
+store-put l bytes at n h e = rw (e, drop-drop (length bytes) at l, ← append_assoc (take at l) bytes (drop (at + length bytes) l)) (sym (store_split l at bytes h))
