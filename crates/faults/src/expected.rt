@@ -5,7 +5,7 @@ ghost use Rattle.faults.specs.Expected.{form_of, is_letter, has_form, behind_of,
 use lines::fields::{NONE, READ, WRITE};
 
 // A read's line ends with its object, or with its field; a write's has a value after it.
-#[derive(Drop)]
+#[derive(Clone, Copy)]
 pub(crate) enum Expected {
     Tasks,
     Objects,
@@ -23,7 +23,7 @@ pub(crate) enum Expected {
 }
 
 // What such a word looks like: a number, R or W; after the last word nothing may follow.
-#[derive(Drop)]
+#[derive(Clone, Copy)]
 pub(crate) enum Form {
     Number,
     Letter,

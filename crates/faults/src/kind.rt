@@ -8,7 +8,7 @@ use codec::cell::width_of;
 use lines::rows::Sizes;
 
 // T and N, or T, N and F; the owners; the starting values; or an access.
-#[derive(Drop)]
+#[derive(Clone, Copy)]
 pub enum Kind {
     Sizes,
     Owners,

@@ -9,7 +9,7 @@ use crate::kind::Kind;
 use text::put_bytes;
 
 // The length of a name, and the name padded with blanks.
-#[derive(Drop)]
+#[derive(Clone, Copy)]
 pub(crate) struct Name(pub(crate) usize, pub(crate) [u8; 43]);
 
 // The name of a word.

@@ -7,7 +7,7 @@ use lines::next_line;
 use lines::rows::{Sizes, no_sizes, sizes_of};
 
 // What the line is, whether the text has it, and where it is.
-#[derive(Drop)]
+#[derive(Clone, Copy)]
 pub(crate) struct Place {
     pub(crate) kind: Kind,
     pub(crate) there: bool,

@@ -8,7 +8,7 @@ use lines::fields::field;
 use lines::words::next_word;
 
 // What was expected there, how many words were as expected before it, and where the word found is; at the line's end it is empty.
-#[derive(Drop)]
+#[derive(Clone, Copy)]
 pub(crate) struct Stopped {
     pub(crate) expected: Expected,
     pub(crate) words: usize,

@@ -17,7 +17,7 @@ pub mod within;
 
 // The run after the steps, the number of steps taken, the offset after their lines, and the number and offset of the step that stopped
 // it, 0 and 0 if none did.
-#[derive(Drop)]
+#[derive(Clone, Copy)]
 pub struct Stood {
     pub run: Run,
     pub steps: usize,

@@ -1,1 +1,4 @@
 // No code: specs/ holds histories, their replay, and the theorem that the replay of every sound history is faithful.
+
+#![tactic(auto)]
+

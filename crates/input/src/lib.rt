@@ -10,7 +10,7 @@ use lines::fields::{NONE, field};
 
 // The input is at the front of the buffer, `count` bytes. If `read` is false there is nothing to work on, and the reason has already been
 // written.
-#[derive(Drop)]
+#[derive(Clone, Copy)]
 pub struct Input {
     pub read: bool,
     pub count: usize,
@@ -185,7 +185,7 @@ pub fn from_arguments(program: &[u8], expected: &[u8], help: &[u8], buffer: &mut
 }
 
 // The input and the task that the option --task chose. If `one` is false there was no such option.
-#[derive(Drop)]
+#[derive(Clone, Copy)]
 pub struct ChosenInput {
     pub read: bool,
     pub count: usize,

@@ -6,7 +6,7 @@ ghost use Rattle.lines.specs.Fields.{fields_of};
 use crate::fields::{NONE, READ, WRITE, fields};
 
 // An access as a line asks for it; `good` is false if the line is malformed. The field is 0 if lines name none.
-#[derive(Drop)]
+#[derive(Clone, Copy)]
 pub struct Asked {
     pub good: bool,
     pub task: usize,

@@ -20,7 +20,7 @@ fn is_passed(line: &[u8]) -> bool
 }
 
 // A line that is not skipped: where it is, and its number. If there is none, the number is that of the line after the last.
-#[derive(Drop)]
+#[derive(Clone, Copy)]
 pub struct Found {
     pub there: bool,
     pub from: usize,

@@ -11,7 +11,7 @@ use crate::fields::{NONE, fields};
 use codec::limit::{CELLS, OBJECTS};
 
 // T and N as a line gives them, whether it has F too, and F, or 0; `good` is false if the line is malformed.
-#[derive(Drop)]
+#[derive(Clone, Copy)]
 pub struct Sizes {
     pub good: bool,
     pub tasks: usize,

@@ -42,7 +42,7 @@ fn run_end(line: &[u8], at: usize, blanks: bool) -> usize
 }
 
 // Where a word begins and ends; both are the line's end if there is none.
-#[derive(Drop)]
+#[derive(Clone, Copy)]
 pub struct Word {
     pub from: usize,
     pub to: usize,

@@ -17,7 +17,7 @@ use tracker::{CellRecord, Locality, State};
 use transitions::blank;
 
 // The result of opening: the number, the bytes written and the state, which is blank on a refusal.
-#[derive(Drop)]
+#[derive(Clone, Copy)]
 pub struct Opened {
     pub number: u32,
     pub written: usize,

@@ -15,7 +15,7 @@ const MOST_WORDS: usize = 65;
 
 // The input and what was asked. If `asked` is false there were no options. The counts and the order are at the front of their buffers.
 // If `read` is false there is nothing to work on, and the reason has already been written.
-#[derive(Drop)]
+#[derive(Clone, Copy)]
 pub struct PausingInput {
     pub read: bool,
     pub count: usize,
@@ -28,7 +28,7 @@ pub struct PausingInput {
 
 // What the options say; `next` is the argument after them. If `stepped` is true, `steps` is the number of --steps. `done` is the argument
 // with the first count and `order` the one with the order's name, 0 if not given. If `wrong` is true they are not as the usage says.
-#[derive(Drop)]
+#[derive(Clone, Copy)]
 struct Options {
     next: usize,
     wrong: bool,

@@ -12,7 +12,7 @@ use lines::rows::is_row;
 use lines::words::{bare_end, next_word};
 
 // The number of the first line that is not one task number, 0 if there is none; and then the number of tasks.
-#[derive(Drop)]
+#[derive(Clone, Copy)]
 pub struct Order {
     pub wrong: usize,
     pub count: usize,

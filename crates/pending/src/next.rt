@@ -18,7 +18,7 @@ use entries::entry::{Found, access_stands, entry_at, number_at, ordering_ok, sou
 use entries::{Checked, Limits};
 
 // An access that may be done now, with the place after it; one that an ordering holds up; or records that are refused.
-#[derive(Drop)]
+#[derive(Clone, Copy)]
 pub enum Next {
     Open { op: Op, next: usize },
     Held,
@@ -27,7 +27,7 @@ pub enum Next {
 
 // What is found at a task's next group: what is next, and how far the scan got. `at` is the place of the access's record, `scan` the
 // place of the first unmet ordering before it, or `at` if all are met; both are 0 if the group is refused.
-#[derive(Drop)]
+#[derive(Clone, Copy)]
 pub struct Look {
     pub next: Next,
     pub scan: usize,

@@ -13,7 +13,7 @@ use pending::next::{dones_of, look_at};
 use pending::{Run, TaskRun};
 
 // No task has accesses left; or the one that is held and the offset of the ordering.
-#[derive(Drop)]
+#[derive(Clone, Copy)]
 pub enum Hold {
     Free,
     Held { task: usize, offset: usize },

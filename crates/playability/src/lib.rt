@@ -13,7 +13,7 @@ pub mod settle;
 
 // The number; the offset of the record that is refused or, with 18, of the ordering that is not met; with 18 the task that is held; the
 // steps of the order.
-#[derive(Drop)]
+#[derive(Clone, Copy)]
 pub struct Playability {
     pub number: u32,
     pub offset: usize,

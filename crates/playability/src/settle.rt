@@ -14,7 +14,7 @@ use scheduler::lowest::{NextStep, lowest};
 
 // The reader's number and offset; the run at the start and where no task is ready, both blank on a refusal; and the number of steps
 // between them.
-#[derive(Drop)]
+#[derive(Clone, Copy)]
 pub struct Settled {
     pub number: u32,
     pub offset: usize,
@@ -24,7 +24,7 @@ pub struct Settled {
 }
 
 // The run where no task is ready, and the number of steps to it.
-#[derive(Drop)]
+#[derive(Clone, Copy)]
 struct Stood {
     run: Run,
     steps: usize,

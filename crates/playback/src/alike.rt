@@ -12,7 +12,7 @@ use codec::cell::cells_of;
 use codec::number::ENTRIES;
 use reader::layout::{Layout, locate};
 
-#[derive(Drop)]
+#[derive(Clone, Copy)]
 pub struct Compared {
     pub number: u32,
     pub offset: usize,

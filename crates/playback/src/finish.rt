@@ -21,7 +21,7 @@ use scheduler::columns::columns_of;
 use scheduler::lowest::{NextStep, lowest};
 
 // Whether a run has finished; 17 and false if it is not sound.
-#[derive(Drop)]
+#[derive(Clone, Copy)]
 pub struct Completion {
     pub number: u32,
     pub finished: bool,
@@ -29,7 +29,7 @@ pub struct Completion {
 
 // The result of a play: T, N, the number of steps, and whether it finished. `stopped` is 19 and the offset of a read's record if the
 // memory differs from it, else 0 and 0; a play that has neither finished nor been stopped is stuck.
-#[derive(Drop)]
+#[derive(Clone, Copy)]
 pub struct Played {
     pub tasks: usize,
     pub objects: usize,

@@ -15,7 +15,7 @@ use reader::layout::{Layout, locate};
 use replayer::start::started;
 
 // As in `Played`: a run that has neither finished nor been stopped is stuck.
-#[derive(Drop)]
+#[derive(Clone, Copy)]
 pub struct Replayed {
     pub number: u32,
     pub offset: usize,

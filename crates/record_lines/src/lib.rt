@@ -10,7 +10,7 @@ use replay_lines::{letter, put_object};
 use text::{put_byte, put_bytes, put_field};
 
 // Where a record is: its offset, the task of the section, and the number of the section's next access.
-#[derive(Drop)]
+#[derive(Clone, Copy)]
 pub struct Place {
     pub at: usize,
     pub own: usize,

@@ -18,7 +18,7 @@ pub const LONGEST: usize = 65536;
 pub const MOST_STEPS: usize = 10922;
 
 // The number of bytes for standard output (the text) and for standard error (the reasons).
-#[derive(Drop)]
+#[derive(Clone, Copy)]
 pub struct Written {
     pub text: usize,
     pub reasons: usize,

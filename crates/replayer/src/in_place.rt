@@ -7,7 +7,7 @@ use crate::{Stepped, step};
 use pending::Run;
 
 // The access that was done, as in `Stepped`; the run is where it was lent.
-#[derive(Drop)]
+#[derive(Clone, Copy)]
 pub struct Step {
     pub number: u32,
     pub offset: usize,

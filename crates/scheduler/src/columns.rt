@@ -5,7 +5,7 @@ ghost use Rattle.scheduler.specs.Laws.Columns.{columns_of, run_of};
 use codec::limit::TASKS;
 use pending::{Run, TaskRun};
 
-#[derive(Drop)]
+#[derive(Clone, Copy)]
 pub struct Columns {
     pub places: [usize; TASKS],
     pub ends: [usize; TASKS],

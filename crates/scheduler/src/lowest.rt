@@ -11,7 +11,7 @@ use pending::TaskRun;
 use pending::next::Next;
 
 // The lowest ready task and its next access, or none if no task is ready.
-#[derive(Drop)]
+#[derive(Clone, Copy)]
 pub enum NextStep {
     Ready { task: usize, op: Op },
     Stopped,

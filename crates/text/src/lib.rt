@@ -1,4 +1,7 @@
 // Text put into a lent buffer: each function puts its text at an offset and returns the offset after it.
+
+#![tactic(auto)]
+
 ghost use Rattle.std.specs.Prelude.{[], ◌∷◌, ◌+◌, ◌<◌, ◌≤◌, length};
 ghost use Rattle.text.specs.Appended.{Appended};
 ghost use Rattle.text.specs.Decimal.{decimal_of, field_of};

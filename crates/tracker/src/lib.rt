@@ -1,11 +1,14 @@
 // The recorder's state. How the transition table of document 01 changes it is defined in specs/, and proved there to make sound
 // histories; the code is in the crate above, `transitions`.
+
+#![tactic(auto)]
+
 use codec::Position;
 use codec::limit::{CELLS, TASKS};
 
 // Who holds a cell: one task for writing, one for reading, or every task by a share number.
 // Document 01: write-held by S, read-held by S, shared c.
-#[derive(Drop)]
+#[derive(Clone, Copy)]
 pub enum Locality {
     WriteExclusive(u16),
     ReadExclusive(u16),
@@ -14,7 +17,7 @@ pub enum Locality {
 
 // What is kept for a cell. Document 01: each object's record holds its state; with fields (document 02, F-6) each field of an object has
 // its own.
-#[derive(Drop)]
+#[derive(Clone, Copy)]
 pub struct CellRecord {
     pub locality: Locality,
 }
@@ -22,7 +25,7 @@ pub struct CellRecord {
 // The recorder's state. Document 01: T, N, the cells' records, Done, Seen, Took, G, Last. If Last's number is 0 there is no Last.
 // `fields` is 0 under head 1, where each object is one cell, else F under head 7 (document 02, F-6). Entries from T or N times F on have
 // no meaning.
-#[derive(Drop)]
+#[derive(Clone, Copy)]
 pub struct State {
     pub tasks: u16,
     pub objects: u16,
@@ -36,7 +39,7 @@ pub struct State {
 }
 
 // A state without its cells' records: an access can pass this by value cheaply.
-#[derive(Drop)]
+#[derive(Clone, Copy)]
 pub struct Counters {
     pub tasks: u16,
     pub objects: u16,
@@ -49,7 +52,7 @@ pub struct Counters {
 }
 
 // The rows of the transition table.
-#[derive(Drop)]
+#[derive(Clone, Copy)]
 pub enum Row {
     One,
     Two,
@@ -65,7 +68,7 @@ pub enum Row {
 
 // An access by the table: its row's number, the cell and the task's entries after it, and its orderings. A missing ordering has number
 // 0. Row 10 orders after every other task and leaves these two empty.
-#[derive(Drop)]
+#[derive(Clone, Copy)]
 pub struct Plan {
     pub row: u8,
     pub locality: Locality,

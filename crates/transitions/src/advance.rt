@@ -9,7 +9,7 @@ use codec::Position;
 use tracker::{Counters, Locality, Plan, Row};
 
 // What a row can change besides the cell, as it was before the access: Seen and Took of its task, G and Last; `here` is (T2, k).
-#[derive(Drop)]
+#[derive(Clone, Copy)]
 struct Kept {
     here: Position,
     seen: u32,

@@ -1,4 +1,7 @@
 // The transition table and the soundness test of document 01 as code.
+
+#![tactic(auto)]
+
 ghost use Rattle.std.specs.Prelude.{◌≡◌};
 ghost use Rattle.tracker.specs.Laws.Counters.{counters_of};
 ghost use Rattle.tracker.specs.State.{blank_state};

@@ -16,7 +16,7 @@ use Rattle.codec.specs.Kind.{length_of, head_kind_of}
 use Rattle.codec.specs.Head.{head_length, head_step}
 use Rattle.codec.specs.Limit.{max_tasks, max_objects, max_fields}
 use Rattle.codec.specs.Laws.Limit.{within_test}
-use Rattle.codec.specs.Number.{short, in_body}
+use Rattle.codec.specs.Number.{short, in_body, misplaced}
 use Rattle.codec.specs.Laws.Roundtrip.{FitsOp, read-ordering, read-access, read-section, read_head}
 use Rattle.entries.specs.declared.Checked.{Checked}
 use Rattle.entries.specs.declared.Limits.{Limits}
@@ -72,7 +72,7 @@ module _ (m : Limits) (s : Small m) where
       let l : List ℕ = orderings_bytes ps ++ (access o ++ r) in
       rw append_assoc (entry-ordering m ended at (ordering p ++ l) p (omega (arith, length-append (ordering p) l, ordering-length p))
       (read-ordering in_body p l (record { task = omega (arith, i.0.below, s.tasks); number = i.0.fits })) (position_ok m p i.0)
-      ∙ rw (drop_at (ordering p) l 8 (ordering-length p), orderings_back _ (at + 8) ps o r i.1 j))
+      ∙ rw (drop_at (ordering p) l 8 (ordering-length p), orderings_back (stop misplaced at) (at + 8) ps o r i.1 j))
 
   pub entry_back : (ended : Checked) (at : ℕ) (e : Entry) (r : List ℕ) → EntryIn m e → entry_at m ended at (entry_bytes e ++ r) ≡ read e
   unfolding entry_bytes
