@@ -1,5 +1,8 @@
 // Opening a recording (document 01, "Tasks, objects, positions", "Number table"): the checks in their order, the cells' records, the lent
 // memory, the head.
+
+#![tactic(auto)]
+
 ghost use Rattle.std.specs.Prelude.{◌≡◌, ◌≤◌, length};
 ghost use Rattle.codec.specs.Cell.{cells_of};
 ghost use Rattle.codec.specs.Limit.{max_tasks, max_objects, max_fields};

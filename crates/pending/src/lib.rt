@@ -1,4 +1,7 @@
 // A run: how far each task has got in its body, whether a run is sound, and what is next for a task. Document 01, "Replay".
+
+#![tactic(auto)]
+
 use codec::limit::TASKS;
 
 pub mod next;
