@@ -1,4 +1,7 @@
 // What the playable program writes for a recording (document 02, F-2): yes and the order, or no and what holds it up.
+
+#![tactic(auto)]
+
 ghost use Rattle.std.specs.Prelude.{◌+◌, ◌≤◌, length};
 ghost use Rattle.io.specs.Counts.{IsPrefixLen};
 ghost use Rattle.replay_lines.specs.Limits.{longest};
