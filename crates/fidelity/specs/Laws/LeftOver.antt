@@ -35,7 +35,7 @@ left_end fields t n (e ∷ g) q = elim (ℕ_discrete e.task t) [
   | no p ↦ rw (ne_eqb e.task t p) (left_end fields t n g (omega (arith, count-other t e g p)))
 ]
 
-left_at : (fields t n : ℕ) {h : History} {e : Entry} {g : History} → At e g h → e.task ≡ t → count t g ≡ n → left_of fields t n h ≡ filed fields e ∷ left_of fields t (suc n) h
+left_at : (fields t n : ℕ) {e : Entry} {g : History} {h : History} → At e g h → e.task ≡ t → count t g ≡ n → left_of fields t n h ≡ filed fields e ∷ left_of fields t (suc n) h
 unfolding left_of
 left_at fields t n {e = e} {g = g} here p q =
     rw (eq-eqb e.task t p, le-leb n (count t g) (omega arith), lt-leb (suc n) (count t g) (omega arith), left_end fields t n g (omega arith))
