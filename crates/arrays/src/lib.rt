@@ -4,6 +4,9 @@
 // each of 2,048 cells its case (0 write-held, 1 read-held, 2 shared), and the same for its task; its words are G, Seen of each task, and
 // each cell's share number.
 // A run's places are T and N, then for each task its place, end, done and count.
+
+#![tactic(auto)]
+
 ghost use Rattle.std.specs.Prelude.{◌≡◌};
 ghost use Rattle.codec.specs.Store.{store};
 ghost use Rattle.codec.specs.Limit.{max_tasks, max_cells};

@@ -1,5 +1,6 @@
 pub mod AccessLines
 pub mod Asked
+pub mod Bytes
 pub mod Fields
 pub mod Lines
 pub mod Number

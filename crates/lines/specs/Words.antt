@@ -1,6 +1,6 @@
 -- The words of a line: the runs of bytes that are not blanks. A # begins a comment, which goes to the line's end.
 use Rattle.std.specs.Prelude.{◌≡◌, Bool, cond, ◌||◌, List, [], ◌∷◌, ℕ, ◌-◌, ◌<◌, ◌≤◌, eqb, length, take, drop}
-use Rattle.bytes.specs.Bytes.{index_of}
+use Rattle.lines.specs.Bytes.{index_of}
 
 -- space, tab and carriage return
 unfoldable pub is_blank : ℕ → Bool

@@ -1,12 +1,16 @@
 // The text that the program `record` reads: its lines, and what each of them asks for.
+
+#![tactic(auto)]
+
 ghost use Rattle.std.specs.Prelude.{◌≡◌, ◌+◌, ◌≤◌, length};
 ghost use Rattle.lines.specs.Lines.{is_passed, NextLine};
 
+use crate::find::find;
 use crate::words::{bare_end, next_word};
-use bytes::scan::find;
 
 pub mod asked;
 pub mod fields;
+mod find;
 pub mod rows;
 pub mod words;
 

@@ -3,7 +3,7 @@ ghost use Rattle.std.specs.Prelude.{cond, not, ◌≡◌, ◌+◌, ◌≤◌, le
 ghost use Rattle.lines.specs.Words.{is_blank, bare_of, NextWord};
 ghost use Rattle.lines.specs.Laws.WordsCode.{run_of};
 
-use bytes::scan::find;
+use crate::find::find;
 
 // Space, tab and carriage return.
 fn is_blank(byte: u8) -> bool

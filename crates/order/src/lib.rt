@@ -1,4 +1,7 @@
 // The order of tasks that a text gives: one task number on each line.
+
+#![tactic(auto)]
+
 ghost use Rattle.std.specs.Prelude.{[], ◌≡◌, ◌+◌, ◌≤◌, length, get_or};
 ghost use Rattle.codec.specs.Store.{store};
 ghost use Rattle.lines.specs.Lines.{lines_from};

@@ -1,8 +1,8 @@
--- What `bytes::scan::find` answers for a search up to the end of a list.
+-- What `find` answers for a search up to the end of a list.
 use Rattle.std.specs.Prelude.{◌≡◌, Bool, true, false, List, [], ◌∷◌, ℕ, suc, ◌+◌, ◌≤◌, eqb, length, drop}
 use Rattle.std.proofs.Common.{arith}
 use Rattle.std.proofs.Math.Seq.{take-length}
-use Rattle.bytes.specs.Bytes.{index_after, index_of, slice}
+use Rattle.lines.specs.Bytes.{index_after, index_of, slice}
 
 within-cons : (t : Bool) (k n : ℕ) → k ≤ n → index_after t k ≤ suc n
 unfolding index_after

@@ -1,7 +1,7 @@
 -- Laws of `Lines`.
 use Rattle.std.specs.Prelude.{◌≡◌, refl, Bool, true, false, cond, List, [], ◌∷◌, ℕ, ◌+◌, ◌-◌, ◌<◌, ◌≤◌, eqb, ltb, length, take, drop}
 use Rattle.std.proofs.Common.{add-one, arith, ltb-true, ltb-false, length-drop, drop_of_length-le, drop-cons, drop-drop}
-use Rattle.bytes.specs.Bytes.{index_after, index_of}
+use Rattle.lines.specs.Bytes.{index_after, index_of}
 use Rattle.codec.specs.Laws.Decide.{passes, fails, split}
 use Rattle.lines.specs.Words.{front}
 use Rattle.lines.specs.Lines.{lines_of, is_passed, numbered, lines_from, line_behind}

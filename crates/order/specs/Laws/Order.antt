@@ -1,7 +1,7 @@
 -- Laws of `Order`: how many tasks a text can give, and the numbers of its lines.
 use Rattle.std.specs.Prelude.{◌≡◌, refl, List, [], ◌∷◌, ℕ, suc, ◌+◌, ◌*◌, ◌≤◌, eqb, length}
 use Rattle.std.proofs.Common.{arith}
-use Rattle.bytes.specs.Bytes.{index_of}
+use Rattle.lines.specs.Bytes.{index_of}
 use Rattle.codec.specs.Laws.Decide.{passes, fails, split}
 use Rattle.lines.specs.Lines.{Line, lines_of, is_passed, numbered}
 use Rattle.lines.specs.Words.{front, bare_of, words_in, pieces_of, filled_of}

@@ -39,7 +39,6 @@ returns-then-dones-source c = λ m start end w. record {
   holds = stops_before _ _ _ _ _ _ _ (c.loop-place.invariant m start end w) c.loop-place-test.true ((turn (goal.at.returns-then-dones-source c).In-loop-place m start end w).here (rw (c.source_at-source.ensures, c.number_at-number.ensures) at c.if-dones-source.true));
   ahead = c.loop-place.invariant m start end w;
   held = λ h. (turn (goal.at.returns-then-dones-source c).In-loop-place m start end w).unmet (rw (c.source_at-source.ensures, c.number_at-number.ensures) at c.if-dones-source.true);
-
 }
 
 pub overflow_cast-place : goal.overflow_cast-place

@@ -36,5 +36,4 @@ returns c = record {
   looks = next_open _ _ _ _ _ _ c.entry_at-f.ensures _ _ _ c.in-Access.is _ (reached (goal.at.returns c).After-first_unmet-scan).ahead c.if-scan-at.false;
   holds = (reached (goal.at.returns c).After-first_unmet-scan).holds;
   judged_to = λ h. (reached (goal.at.returns c).After-first_unmet-scan).ahead;
-
 }

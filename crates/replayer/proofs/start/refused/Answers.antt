@@ -1,0 +1,4 @@
+use Rattle.replayer.proofs.start.refused.Goals as goal
+
+pub returns : goal.returns
+returns c = rw c.blank_tasks-runs.ensures
