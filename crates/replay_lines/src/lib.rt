@@ -1,4 +1,7 @@
 // The lines that the programs write, each put into the output at an offset; the offset after it is returned.
+
+#![tactic(auto)]
+
 ghost use Rattle.std.specs.Prelude.{◌≡◌, ◌+◌, ◌≤◌, length};
 ghost use Rattle.text.specs.Appended.{Appended};
 ghost use Rattle.text.specs.Zeros.{Zeros};

@@ -1,5 +1,8 @@
 // Why a play is stuck: for each task that has accesses left, the ordering it waits for. And why it was stopped: what the read's record
 // says and what the memory holds.
+
+#![tactic(auto)]
+
 ghost use Rattle.std.specs.Prelude.{◌++◌, ◌≡◌, ◌+◌, ◌<◌, ◌≤◌, length, get_or};
 ghost use Rattle.codec.specs.Limit.{max_tasks};
 ghost use Rattle.pending.specs.declared.Run.{Run};

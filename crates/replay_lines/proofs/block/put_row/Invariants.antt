@@ -1,0 +1,18 @@
+use mathlib.Core.Path.{◌≡◌, refl}
+use Prim.Native.Nat.{◌≤◌, ◌-◌}
+use native.Mathlib.Omega.{arith}
+use lib.ListN.{length, take}
+use lib.Seq.{take-length}
+use Rattle.text.specs.Appended.{Appended}
+use Rattle.text.specs.Laws.Appended.{joined, nothing}
+use Rattle.replay_lines.specs.Lines.{spaced}
+use Rattle.replay_lines.specs.Laws.Lines.{spaced-on, spaced_room}
+use Rattle.replay_lines.specs.Block.{row_of}
+use Rattle.replay_lines.specs.Laws.BlockCode.{row-length}
+use Rattle.replay_lines.proofs.block.put_row.Given as goal
+
+abbrev pub invariant-loop-i : goal.invariant-loop-i
+invariant-loop-i l = (l.i ≤ length l.numbers) × (length l.out ≡ length l.initial.out) × Appended (spaced (take l.i l.numbers)) l.initial.out l.initial.end l.out l.end
+
+abbrev pub decreases-loop-i : goal.decreases-loop-i
+decreases-loop-i l = length l.numbers - l.i

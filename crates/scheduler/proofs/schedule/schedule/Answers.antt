@@ -1,0 +1,78 @@
+use borrow.Author.Rules.{rules}
+use mathlib.Core.Path.{sym, ◌∙◌}
+use native.Mathlib.Omega.{arith}
+use Prim.Native.Nat.{◌-◌}
+use lib.ListN.{length, length-set, length-map}
+use borrow.Author.Tests.{not-true, not-false}
+use Rattle.pending.specs.declared.Run.{Run}
+use Rattle.pending.specs.Laws.Moved.{Shaped}
+use Rattle.scheduler.specs.Laws.Columns.{run_of}
+use Rattle.scheduler.specs.Laws.Columns.{columns_back}
+use Rattle.scheduler.specs.Laws.ColumnsCode.{Columned, columned_none}
+use Rattle.scheduler.specs.Laws.Lowest.{SteppedTo, found-next, found_none}
+use Rattle.scheduler.specs.Laws.ScheduleCode.{Writing, wrote_none, writing_none, writing_more, writing_stops, writing_full}
+use Rattle.scheduler.proofs.Else.{not-ready}
+use Rattle.scheduler.proofs.schedule.schedule.Goals as goal
+use Rattle.scheduler.proofs.schedule.schedule.Goals.{After-lowest-n, At-loop-steps, In-Ready, Start}
+
+-- the run's array has 16 entries
+shaped : (c : Start) → Shaped c.args.run
+shaped c = search rules
+
+-- the run at the loop's head, and after a task is found
+abbrev here : At-loop-steps → Run
+here c = let k = c.columns_of-c.result in let r = c.args.run in run_of r.tasks r.objects r.fields c.loop-steps.places k.ends c.loop-steps.dones k.counts
+
+abbrev after : After-lowest-n → Run
+after c = let k = c.columns_of-c.result in let r = c.args.run in run_of r.tasks r.objects r.fields c.lowest-n.new.places k.ends c.lowest-n.new.dones k.counts
+
+found : (c : In-Ready) →
+    SteppedTo (here (goal.at.In-Ready c).At-loop-steps) c.args.bytes.now c.in-Ready.task c.in-Ready.op (after (goal.at.In-Ready c).After-lowest-n)
+found c = let l = c.lowest-n.ensures in found-next _ _ c.loop-steps.invariant.0.sound _ (after (goal.at.In-Ready c).After-lowest-n) _ _ l.value l.counts_after c.in-Ready.is
+
+pub returns-then-not-sound : goal.returns-then-not-sound
+returns-then-not-sound c =
+    let both = wrote_none _ _ _ (sym c.sound.ensures ∙ c.if-not-sound.true) in
+    record { value = both.0; out_after = both.1 }
+
+pub loop-steps-init : goal.loop-steps-init
+loop-steps-init c = let r = c.args.run in
+    let k = c.columns_of-c in
+    let s = shaped (goal.at.loop-steps-init c).Start in
+    (columned_none _ r _ k.ensures s (sym c.sound.ensures ∙ c.if-not-sound.false), rw (columns_back r k.result k.ensures s) (writing_none _ _ _))
+
+pub lowest-n-requires : goal.lowest-n-requires
+lowest-n-requires c = c.loop-steps.invariant.0
+
+pub shape_of-out-in_default : goal.shape_of-out-in_default
+shape_of-out-in_default c = c.loop-steps.invariant.1.long
+
+pub returns-in_default : goal.returns-in_default
+returns-in_default c =
+    let both = let i = c.loop-steps.invariant in
+    let l = c.lowest-n.ensures in
+    writing_stops _ _ _ _ _ _ i.1 (found_none _ _ i.0.sound _ (after (goal.at.returns-in_default c).After-lowest-n) l.value l.counts_after (not-ready _ c.in_default.in_default-own.keys2)).0 in
+    record { value = both.0; out_after = both.1 }
+
+pub overflow_cast-out : goal.overflow_cast-out
+overflow_cast-out c = omega (arith, (found (goal.at.overflow_cast-out c).In-Ready).is.few)
+
+pub bounds-out-steps : goal.bounds-out-steps
+bounds-out-steps c = c.loop-steps-test.true
+
+pub overflow_add-steps : goal.overflow_add-steps
+overflow_add-steps c = omega (arith, c.loop-steps-test.true, c.loop-steps.invariant.1.long, c.well_formed.1.1.0.0)
+
+pub loop-steps-smaller : goal.loop-steps-smaller
+loop-steps-smaller c = simp length-set (omega (arith, c.loop-steps-test.true))
+
+pub loop-steps-preserved : goal.loop-steps-preserved
+loop-steps-preserved c = let f = found (goal.at.loop-steps-preserved c).In-Ready in (c.lowest-n.ensures.columned, writing_more _ _ _ _ _ _ c.loop-steps.invariant.1 _ _ _ c.loop-steps-test.true f.is _ f.run)
+
+pub shape_of-out : goal.shape_of-out
+shape_of-out c = c.loop-steps.invariant.1.long
+
+pub returns : goal.returns
+returns c =
+    let both = writing_full _ _ _ _ _ _ c.loop-steps.invariant.1 c.loop-steps-test.false in
+    record { value = both.0; out_after = both.1 }
