@@ -1,4 +1,7 @@
 // A list of steps followed, with a line for each that is taken or refused.
+
+#![tactic(auto)]
+
 ghost use Rattle.std.specs.Prelude.{◌||◌, ◌≡◌, ◌+◌, ◌<◌, ◌≤◌, leb, length};
 ghost use Rattle.codec.specs.Limit.{max_tasks};
 ghost use Rattle.follow.specs.Follow.{is_passed, tried_of, followed_of};

@@ -1,4 +1,7 @@
 // Whether a recording can be played to its end, and in which order (document 02, F-2). Values play no part: no memory is lent.
+
+#![tactic(auto)]
+
 ghost use Rattle.std.specs.Prelude.{◌≡◌};
 ghost use Rattle.playability.specs.PlayableOf.{refused_playable, playable_of};
 ghost use Rattle.playability.specs.Settle.{settle_of};

@@ -1,4 +1,7 @@
 // The line of a record, as the program `show` writes it (document 02, F-3), and the line that says how many records there are (F-5).
+
+#![tactic(auto)]
+
 ghost use Rattle.std.specs.Prelude.{◌+◌, ◌≤◌, length};
 ghost use Rattle.text.specs.Appended.{Appended};
 ghost use Rattle.record_lines.specs.RecordLines.{objects_of, head_line, section_line, ordering_line, value_of, access_line, line_at, records_line};

@@ -1,6 +1,9 @@
 // Many calls in one, for the benchmark: each returns a digest of everything its calls answered, so that none can be left out. This is a
 // library of its own in which an access and a step are each called in one place, as in a program: if they were called in two, the
 // compiler would not inline the call, and an access would copy the state once more.
+
+#![tactic(auto)]
+
 ghost use Rattle.std.specs.Prelude.{◌≡◌, ◌<◌};
 ghost use Rattle.timed.specs.Digest.{mixed_in, access_word, step_word};
 ghost use Rattle.timed.specs.ReplayOf.{replay_of};

@@ -33,3 +33,21 @@ loop-at-smaller c = let n = c.next_line-l in omega (arith, n.ensures.within, n.e
 
 pub returns : goal.returns
 returns c = let l = c.loop-at in let e = taken-all _ _ _ _ _ l.invariant.4 (lines_none l.number l.at c.args.text.now (omega arith)).0 in record { wrong_value = e.0; count_value = λ _. (e.1, e.2) }
+
+pub returns-then-not-l : goal.returns-then-not-l
+returns-then-not-l c = let e = taken-all _ _ _ _ _ c.loop-at.invariant.4 (c.next_line-l.ensures.none (not-true _ c.if-not-l.true)) in record { wrong_value = e.0; count_value = λ _. (e.1, e.2) }
+
+pub returns-then-task-ge-NONE : goal.returns-then-task-ge-NONE
+returns-then-task-ge-NONE c = let l = c.loop-at in let n = c.next_line-l in let there : n.result.there ≡ true = (not-false _ c.if-not-l.false) in let found = n.ensures.found there in record { wrong_value = taken_wrong _ _ _ _ _ l.invariant.4 _ _ found (task-none _ _ c.task_of-task.ensures (omega arith)); count_value = λ z. absurd (let y : ⊥ = omega (arith, first-from _ _ _ _ found) in y) }
+
+pub bounds-tasks-count : goal.bounds-tasks-count
+bounds-tasks-count c = let l = c.loop-at in let n = c.next_line-l in let there : n.result.there ≡ true = (not-false _ c.if-not-l.false) in omega (arith, taken_room _ _ _ _ _ l.invariant.4 _ _ (n.ensures.found there))
+
+pub overflow_add-count : goal.overflow_add-count
+overflow_add-count c = let l = c.loop-at in let n = c.next_line-l in let there : n.result.there ≡ true = (not-false _ c.if-not-l.false) in omega (arith, taken_room _ _ _ _ _ l.invariant.4 _ _ (n.ensures.found there))
+
+pub overflow_add-number : goal.overflow_add-number
+overflow_add-number c = let n = c.next_line-l in let there : n.result.there ≡ true = (not-false _ c.if-not-l.false) in omega (arith, n.ensures.within, n.ensures.counted there)
+
+pub loop-at-preserved : goal.loop-at-preserved
+loop-at-preserved c = let l = c.loop-at in let n = c.next_line-l in let there : n.result.there ≡ true = (not-false _ c.if-not-l.false) in let t = task-number _ _ c.task_of-task.ensures c.if-task-ge-NONE.false in (omega (arith, n.ensures.within), omega (arith, n.ensures.counted there), omega arith, simp length-set l.invariant.3, taken_more _ _ _ _ _ l.invariant.4 _ _ (n.ensures.found there) _ t.0 t.1)

@@ -11,7 +11,7 @@ use Rattle.order.specs.Laws.OrderCode.{task-number, task-none, Taken, taken_none
 use Rattle.order.proofs.read_tasks.Given as goal
 
 abbrev pub invariant-loop-at : goal.invariant-loop-at
-invariant-loop-at l =     (l.at ≤ length l.text + 1) × (l.number ≤ l.at + 1) × (1 ≤ l.number) × (length l.tasks ≡ length l.initial.tasks)
+invariant-loop-at l = (l.at ≤ length l.text + 1) × (l.number ≤ l.at + 1) × (1 ≤ l.number) × (length l.tasks ≡ length l.initial.tasks)
     × Taken (lines_from l.first l.from l.text) l.initial.tasks (lines_from l.number l.at l.text) l.count l.tasks
 
 abbrev pub decreases-loop-at : goal.decreases-loop-at

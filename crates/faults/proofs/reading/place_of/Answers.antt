@@ -18,3 +18,26 @@ loop-at-smaller c = omega (arith, c.next_line-l.ensures.on (omega arith))
 
 pub returns : goal.returns
 returns c = let l = c.loop-at in stands-none _ _ _ l.kind 0 (lines_none l.number l.at _ (omega arith)).0 l.invariant.2 (omega arith)
+
+pub returns-then-not-l : goal.returns-then-not-l
+returns-then-not-l c =
+    let l = c.loop-at in
+    let n = c.next_line-l.ensures in
+    stands-none _ _ _ l.kind _ (n.none (not-true _ c.if-not-l.true)) l.invariant.2 n.within
+
+pub returns-then-l-line : goal.returns-then-l-line
+returns-then-l-line c =
+    let l = c.loop-at in
+    let n = c.next_line-l in
+    let e = n.ensures.found (not-false _ c.if-not-l.false) in
+    stands_here _ _ l.kind _ _ (sym (reading_here _ l.kind _ _ c.if-l-line.true) ∙ sym (ap (reading_in _ l.kind) e) ∙ l.invariant.2) n.ensures.ordered n.ensures.within
+
+pub loop-at-preserved : goal.loop-at-preserved
+loop-at-preserved c =
+    let l = c.loop-at in
+    let n = c.next_line-l in
+    let p : n.result.there ≡ true = not-false _ c.if-not-l.false in (
+      omega (arith, n.ensures.within),
+      omega (arith, n.ensures.counted p),
+      rw c.kind_after-kind.ensures (sym (reading_on _ l.kind _ _ c.if-l-line.false) ∙ sym (ap (reading_in _ l.kind) (n.ensures.found p)) ∙ l.invariant.2),
+    )

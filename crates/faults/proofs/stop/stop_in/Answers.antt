@@ -19,3 +19,22 @@ returns-then-from-to c = let l = c.loop-at in
 
 pub returns : goal.returns
 returns c = let l = c.loop-at in stop-none _ l.expected l.words l.at l.at refl (words-end _ l.at (omega arith)) l.invariant.2 (omega arith)
+
+pub returns-then-not-fits : goal.returns-then-not-fits
+returns-then-not-fits c =
+    let l = c.loop-at in
+    let w = c.next_word-w in
+    let p = sym c.fits.ensures ∙ c.if-not-fits.true in
+    stopped _ _ l.expected l.words w.result.from w.result.to (sym (stop_off _ _ _ _ _ (rw c.field-f.ensures at p)) ∙ sym (ap (stop_of c.args.named l.expected l.words) (w.ensures.found (omega (arith, w.ensures.ordered, c.if-from-to.false)))) ∙ l.invariant.2) w.ensures.ordered w.ensures.within
+
+pub loop-at-preserved : goal.loop-at-preserved
+loop-at-preserved c =
+    let l = c.loop-at in
+    let w = c.next_word-w in
+    let f = c.field-f.ensures in
+    let p = sym c.fits.ensures ∙ c.if-not-fits.false in
+    let i = w.ensures.found (omega (arith, w.ensures.ordered, c.if-from-to.false)) in (
+      w.ensures.within,
+      omega (arith, w.ensures.on, w.ensures.ordered, c.if-from-to.false),
+      rw (c.next-expected.ensures, f) (sym (stop-on _ _ _ _ _ (rw f at p)) ∙ sym (ap (stop_of c.args.named l.expected l.words) i) ∙ l.invariant.2),
+    )

@@ -9,7 +9,16 @@ use Rattle.playback.proofs.alike.alike.Goals.{Else-not-y}
 both : (c : Else-not-y) →
     let a = c.args in
     (a.x.finished ≡ true) × (a.y.finished ≡ true)
-both c = (c.if-not-x.false, c.if-not-y.false)
+both c = (not-false _ c.if-not-x.false, not-false _ c.if-not-y.false)
+
+pub returns-then-not-x : goal.returns-then-not-x
+unfolding alike_of
+returns-then-not-x c = rw (not-true c.args.x.finished c.if-not-x.true)
+
+pub returns-then-not-y : goal.returns-then-not-y
+unfolding alike_of
+returns-then-not-y c = let a = c.args in
+    rw (not-false a.x.finished c.if-not-x.false, not-true a.y.finished c.if-not-y.true)
 
 pub returns-then-x-y : goal.returns-then-x-y
 unfolding alike_of

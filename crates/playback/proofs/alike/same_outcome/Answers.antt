@@ -10,11 +10,23 @@ use Rattle.playback.proofs.alike.same_outcome.Goals as goal
 parts : {x y : Comparison} → x ≡ y → (x.answer ≡ y.answer) × ((x.first ≡ y.first) × (x.second ≡ y.second))
 parts e = (ap (λ (o : Comparison). o.answer) e, (ap (λ (o : Comparison). o.first) e, ap (λ (o : Comparison). o.second) e))
 
+pub returns-then-l-ne0 : goal.returns-then-l-ne0
+returns-then-l-ne0 c = let a = c.args in let e = parts (first_away a.first.now a.second.now a.first_memory.now a.second_memory.now c.locate-l.result c.locate-l.ensures c.if-l-ne0.true) in record { value = c.refused.ensures ∙ e.0; first_memory_after = e.1.0; second_memory_after = e.1.1 }
+
+pub returns-then-k-ne0 : goal.returns-then-k-ne0
+returns-then-k-ne0 c = let a = c.args in let e = parts (second_away a.first.now a.second.now a.first_memory.now a.second_memory.now c.locate-l.result c.locate-l.ensures c.locate-k.result c.if-l-ne0.false c.locate-k.ensures c.if-k-ne0.true) in record { value = c.refused-then-k-ne0.ensures ∙ e.0; first_memory_after = e.1.0; second_memory_after = e.1.1 }
+
 pub cells_of-requires : goal.cells_of-requires
 cells_of-requires c = let a = c.args in let f = layout_few a.first.now in rw c.locate-l.ensures (omega (arith, f.0), omega (arith, f.1))
 
+pub returns-then-first_memory-cells_of : goal.returns-then-first_memory-cells_of
+returns-then-first_memory-cells_of c = let a = c.args in let e = parts (first-entries a.first.now a.second.now a.first_memory.now a.second_memory.now c.locate-l.result c.locate-l.ensures c.locate-k.result c.if-l-ne0.false c.locate-k.ensures c.if-k-ne0.false (λ q. c.if-first_memory-cells_of.true (q ∙ sym c.cells_of.ensures))) in record { value = c.refused-then-first_memory-cells_of.ensures ∙ e.0; first_memory_after = e.1.0; second_memory_after = e.1.1 }
+
 pub cells_of-requires-2 : goal.cells_of-requires-2
 cells_of-requires-2 c = let a = c.args in let f = layout_few a.second.now in rw c.locate-k.ensures (omega (arith, f.0), omega (arith, f.1))
+
+pub returns-then-second_memory-cells_of : goal.returns-then-second_memory-cells_of
+returns-then-second_memory-cells_of c = let a = c.args in let e = parts (second-entries a.first.now a.second.now a.first_memory.now a.second_memory.now c.locate-l.result c.locate-l.ensures c.locate-k.result c.if-l-ne0.false c.locate-k.ensures c.if-k-ne0.false (c.if-first_memory-cells_of.false ∙ c.cells_of.ensures) (λ q. c.if-second_memory-cells_of.true (q ∙ sym c.cells_of-2.ensures))) in record { value = c.refused-then-second_memory-cells_of.ensures ∙ e.0; first_memory_after = e.1.0; second_memory_after = e.1.1 }
 
 pub compare-requires : goal.compare-requires
 compare-requires c = record { l_value = (c.locate-l.ensures, c.if-l-ne0.false, c.if-first_memory-cells_of.false ∙ c.cells_of.ensures); k_value = (c.locate-k.ensures, c.if-k-ne0.false, c.if-second_memory-cells_of.false ∙ c.cells_of-2.ensures) }
@@ -24,3 +36,10 @@ shape_of-first_memory c = c.compare.auto.first_memory
 
 pub shape_of-second_memory : goal.shape_of-second_memory
 shape_of-second_memory c = c.compare.auto.second_memory
+
+pub returns : goal.returns
+returns c =
+    let all = let a = c.args in let r = c.compare in
+    parts (both_ended a.first.now a.second.now (play_of a.first.now a.first_memory.now) (play_of a.second.now a.second_memory.now) r.new.first_memory r.new.second_memory r.result r.ensures.value r.ensures.first_memory_after r.ensures.second_memory_after
+    ∙ both_play a.first.now a.second.now a.first_memory.now a.second_memory.now c.locate-l.result c.locate-l.ensures c.locate-k.result c.if-l-ne0.false c.locate-k.ensures c.if-k-ne0.false (c.if-first_memory-cells_of.false ∙ c.cells_of.ensures) (c.if-second_memory-cells_of.false ∙ c.cells_of-2.ensures)) in
+    record { value = all.0; first_memory_after = all.1.0; second_memory_after = all.1.1 }

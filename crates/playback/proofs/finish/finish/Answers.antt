@@ -44,7 +44,7 @@ does : (c : After-taken) →
     let cell = op_cell c.args.run.fields o in
     let m = c.loop-task.memory in
     (c.taken.result ≡ agrees cell o m) × (c.taken.new.memory ≡ cond (agrees cell o m) (performed cell o m) m)
-does c = rw c.op_cell-cell.ensures at (c.taken.ensures.value, c.taken.ensures.memory_after)
+does c = (rw c.op_cell-cell.ensures at c.taken.ensures.value, rw c.op_cell-cell.ensures at c.taken.ensures.memory_after)
 
 -- the play after its step
 on : (c : Else-not-taken) →
@@ -63,7 +63,7 @@ standing c =
     let l = c.loop-task in
     let w = c.lowest-n.new in
     let f = found c in
-    columns_place r.tasks r.objects r.fields w.1.1.1.1.0 k.ends w.1.1.1.1.1.1.0 k.counts (here (goal.at.In-Ready c).At-loop-task) _ _ (columns_shaped r.tasks r.objects r.fields l.places k.ends l.dones k.counts) f.is.few f.run
+    columns_place r.tasks r.objects r.fields w.places k.ends w.dones k.counts (here (goal.at.In-Ready c).At-loop-task) _ _ (columns_shaped r.tasks r.objects r.fields l.places k.ends l.dones k.counts) f.is.few f.run
 
 pub loop-task-init : goal.loop-task-init
 loop-task-init c = let r = c.args.run in

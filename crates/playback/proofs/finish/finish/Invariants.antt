@@ -23,8 +23,8 @@ use Rattle.pending.specs.Laws.Sound.{sound_facts}
 use Rattle.playback.proofs.finish.finish.Given as goal
 
 abbrev pub invariant-loop-task : goal.invariant-loop-task
-invariant-loop-task l =     Columned l.bytes l.run.tasks l.run.objects l.run.fields l.places l.ends l.dones l.counts l.scans l.ats × (length l.memory ≡ length l.initial.memory)
+invariant-loop-task l = Columned l.bytes l.run.tasks l.run.objects l.run.fields l.places l.ends l.dones l.counts l.scans l.ats × (length l.memory ≡ length l.initial.memory)
     × Going l.bytes (record { run = l.run; memory = l.initial.memory; steps = 0 }) (record { run = run_of l.run.tasks l.run.objects l.run.fields l.places l.ends l.dones l.counts; memory = l.memory; steps = l.steps })
 
 abbrev pub decreases-loop-task : goal.decreases-loop-task
-decreases-loop-task l =     left_over (run_of l.run.tasks l.run.objects l.run.fields l.places l.ends l.dones l.counts)
+decreases-loop-task l = left_over (run_of l.run.tasks l.run.objects l.run.fields l.places l.ends l.dones l.counts)

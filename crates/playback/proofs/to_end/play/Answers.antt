@@ -13,7 +13,7 @@ playing c =
     can_play a.bytes.now a.memory.now a.l (λ i. omega (arith, c.shared_slice_known-1.given i)) p.0 p.1 p.2
 
 pub finish-requires : goal.finish-requires
-finish-requires c = 
+finish-requires c =
     let both = let a = c.args in plays a.bytes.now a.memory.now a.l (playing (goal.at.finish-requires c).After-set_starting-arg-1) c.started-run.result c.set_starting.new.memory c.started-run.ensures c.set_starting.ensures in
     record { playing = both.0; run_bound = both.1 }
 

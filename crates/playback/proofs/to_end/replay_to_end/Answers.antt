@@ -25,7 +25,7 @@ pub shape_of-memory : goal.shape_of-memory
 shape_of-memory c = c.play-p.auto.memory
 
 pub returns : goal.returns
-returns c = 
+returns c =
     let both = let a = c.args in let p = c.play-p in
     parts (ends_so a.bytes.now (play_of a.bytes.now a.memory.now) p.result p.new.memory p.ensures.value p.ensures.memory_after
     ∙ end-plays a.bytes.now a.memory.now c.locate-l.result c.locate-l.ensures c.if-l-ne0.false (c.if-memory-cells_of.false ∙ c.cells_of.ensures)) in
