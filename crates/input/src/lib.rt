@@ -1,12 +1,30 @@
 // A program's input: the file that its argument names, or standard input. A failure to read is reported on standard error in the system's
 // own words, and is never taken for an empty file.
-ghost use Rattle.std.specs.Prelude.{false, ◌≡◌, ◌<◌};
-ghost use Rattle.io.specs.Counts.{IsPrefixLen};
+#![tactic(auto)]
+
+ghost use Rattle.std.specs.Prelude.{false, ◌≡◌, ◌<◌, ◌≤◌, IfOk, length, take};
+ghost use Rattle.std.specs.Io.{ReadsAtMost};
+ghost use Rattle.std.specs.Io.KnownBytes.{Consumes, IsAtEnd};
+ghost use Rattle.input.specs.Counts.{IsPrefixLen};
 ghost use Rattle.input.specs.Option.{is_option};
 
-use check::same;
-use libc::{STDERR_FILENO, STDIN_FILENO, STDOUT_FILENO};
 use lines::fields::{NONE, field};
+use std::env::FillError;
+use std::fmt::InlineText;
+use std::fs::File;
+use std::io;
+use std::io::{IsTerminal, Read};
+use std::rt::Env;
+
+// The longest argument that is taken, in bytes.
+pub const LONGEST_WORD: usize = 4096;
+
+// The system's numbers for a missing argument, for a name that is too long and for one that is no text.
+const INVALID_ARGUMENT: i32 = 22;
+
+const NAME_TOO_LONG: i32 = 36;
+
+const NOT_TEXT: i32 = 84;
 
 // The input is at the front of the buffer, `count` bytes. If `read` is false there is nothing to work on, and the reason has already been
 // written.
@@ -25,79 +43,122 @@ fn nothing() -> Input
     }
 }
 
-// Reports why a system call failed, after the program's name and what it failed on.
-fn fail(program: &[u8], what: &[u8]) {
-    io::write_all(STDERR_FILENO, program);
-    io::write_all(STDERR_FILENO, b": ");
-    os::fail(what);
+// Writes to standard error. If that fails there is no place left to say so.
+pub fn complain(rt: HostRuntime, text: &[u8]) {
+    let _ = rt.stderr().write_all(text);
 }
 
-// Reads until the buffer is full or the input ends. A read that fails is reported.
-fn fill(fd: i32, program: &[u8], what: &[u8], buffer: &mut [u8]) -> Input
-    ensures { IsPrefixLen result.count buffer.new }
+// The words of an error's message, without its number, which std puts after them in parentheses.
+fn words_of(message: &str) -> &str {
+    match message.rsplit_once(" (") {
+        Some((words, _)) => words,
+        None => message,
+    }
+}
+
+// Writes the system's own words for an error.
+fn put_reason(rt: HostRuntime, error: io::Error) {
+    let code = error.raw_os_error().unwrap_or(INVALID_ARGUMENT);
+    let message = InlineText::<96>::of(io::Error::from_raw_os_error(code));
+    complain(rt, words_of(message.as_str()).as_bytes());
+}
+
+// Reports why a system call failed, after the program's name and what it failed on.
+fn fail(rt: HostRuntime, program: &[u8], what: &[u8], error: io::Error) {
+    complain(rt, program);
+    complain(rt, b": ");
+    complain(rt, what);
+    complain(rt, b": ");
+    put_reason(rt, error);
+    complain(rt, b"\n");
+}
+
+// Reads until the buffer is full or the input ends.
+fn fill<R: Read>(source: &mut R, buffer: &mut [u8]) -> io::Result<usize>
+    ensures count { ReadsAtMost result buffer.new }
+    ensures bytes { IfOk result (λ n. Consumes (R.remaining source.old) (R.remaining source.new) (take n buffer.new)) }
+    ensures end { IfOk result (λ n. n < length buffer.new → IsAtEnd (R.remaining source.new)) }
 {
     let mut done = 0;
     while done < buffer.len() {
         let rest = &mut buffer[done..];
-        let got = libc::read(fd, rest);
-        if got < 0 {
-            fail(program, what);
-            return nothing();
-        }
-        let more = io::count(got, rest);
+        let more = source.read(rest)?;
         if more == 0 {
             break;
         }
         done += more;
     }
-    Input {
-        read: true,
-        count: done,
+    Ok(done)
+}
+
+// The same, but a read that fails is reported.
+fn read_all<R: Read>(
+    rt: HostRuntime,
+    source: &mut R,
+    program: &[u8],
+    what: &[u8],
+    buffer: &mut [u8],
+) -> Input
+    ensures { IsPrefixLen result.count buffer.new }
+{
+    match fill(source, buffer) {
+        Ok(count) => Input { read: true, count },
+        Err(error) => {
+            fail(rt, program, what, error);
+            nothing()
+        }
+    }
+}
+
+// Opens a file. std takes no name that is not UTF-8 text.
+fn open(rt: HostRuntime, name: &[u8]) -> io::Result<File> {
+    match str::from_utf8(name) {
+        Ok(path) => File::open(&rt, path),
+        Err(_) => Err(io::Error::from_raw_os_error(NOT_TEXT)),
     }
 }
 
 // Reads a file.
-pub fn from_file(program: &[u8], name: &[u8], buffer: &mut [u8]) -> Input
+pub fn from_file(rt: HostRuntime, program: &[u8], name: &[u8], buffer: &mut [u8]) -> Input
     ensures { IsPrefixLen result.count buffer.new }
 {
-    let fd = os::open_read(name);
-    if fd < 0 {
-        fail(program, name);
-        return nothing();
+    match open(rt, name) {
+        Ok(mut file) => read_all(rt, &mut file, program, name, buffer),
+        Err(error) => {
+            fail(rt, program, name, error);
+            nothing()
+        }
     }
-    let got = fill(fd, program, name, buffer);
-    libc::close(fd);
-    got
 }
 
 // Reads standard input. On a terminal it says what is expected.
-fn from_standard(program: &[u8], expected: &[u8], buffer: &mut [u8]) -> Input
+fn from_standard(rt: HostRuntime, program: &[u8], expected: &[u8], buffer: &mut [u8]) -> Input
     ensures { IsPrefixLen result.count buffer.new }
 {
-    if libc::isatty(STDIN_FILENO) == 1 {
-        io::write_all(STDERR_FILENO, program);
-        io::write_all(STDERR_FILENO, b": reading ");
-        io::write_all(STDERR_FILENO, expected);
-        io::write_all(STDERR_FILENO, b" from the terminal; name a file, or see ");
-        io::write_all(STDERR_FILENO, program);
-        io::write_all(STDERR_FILENO, b" --help\n");
+    if rt.stdin().is_terminal() {
+        complain(rt, program);
+        complain(rt, b": reading ");
+        complain(rt, expected);
+        complain(rt, b" from the terminal; name a file, or see ");
+        complain(rt, program);
+        complain(rt, b" --help\n");
     }
-    fill(STDIN_FILENO, program, b"standard input", buffer)
+    read_all(rt, &mut rt.stdin(), program, b"standard input", buffer)
 }
 
 // Writes how the program is called; `options` names what it takes before the file.
-pub fn put_usage(fd: i32, program: &[u8], options: &[u8]) {
-    io::write_all(fd, b"usage: ");
-    io::write_all(fd, program);
-    io::write_all(fd, options);
-    io::write_all(fd, b" [FILE | --help]\n");
+pub fn put_usage(to: &impl Print, program: &[u8], options: &[u8]) {
+    let _ = to.write_all(b"usage: ");
+    let _ = to.write_all(program);
+    let _ = to.write_all(options);
+    let _ = to.write_all(b" [FILE | --help]\n");
 }
 
 // Says how the program is called, and reads nothing.
-fn misused(program: &[u8], options: &[u8]) -> Input
+fn misused(rt: HostRuntime, program: &[u8], options: &[u8]) -> Input
     ensures { (result.read ≡ false) × (result.count ≡ 0) }
 {
-    put_usage(STDERR_FILENO, program, options);
+    put_usage(&rt.stderr(), program, options);
     nothing()
 }
 
@@ -111,8 +172,26 @@ pub fn is_option(word: &[u8]) -> bool
     word[0] == b'-'
 }
 
+// How many words the program was started with, its own name among them.
+pub fn word_count(rt: HostRuntime) -> usize {
+    for at in 0..usize::MAX {
+        if let Err(FillError::NotPresent) = rt.arg(at, &mut []) {
+            return at;
+        }
+    }
+    usize::MAX
+}
+
+// Puts an argument at the front of the buffer and returns its length; 0 if it is missing or longer than the buffer.
+pub fn word_at(rt: HostRuntime, at: usize, word: &mut [u8]) -> usize
+    ensures { IsPrefixLen result word.new }
+{
+    rt.arg(at, word).unwrap_or(0)
+}
+
 // Follows a word: `-` is standard input, and any other word that begins with it is an option.
 fn from_word(
+    rt: HostRuntime,
     word: &[u8],
     program: &[u8],
     options: &[u8],
@@ -122,22 +201,23 @@ fn from_word(
 ) -> Input
     ensures { IsPrefixLen result.count buffer.new }
 {
-    if same(word, b"-") {
-        return from_standard(program, expected, buffer);
+    if word == b"-".as_slice() {
+        return from_standard(rt, program, expected, buffer);
     }
-    if same(word, b"--help") {
-        put_usage(STDOUT_FILENO, program, options);
-        io::write_all(STDOUT_FILENO, help);
+    if word == b"--help".as_slice() {
+        put_usage(&rt.stdout(), program, options);
+        let _ = rt.stdout().write_all(help);
         return nothing();
     }
     if is_option(word) {
-        return misused(program, options);
+        return misused(rt, program, options);
     }
-    from_file(program, word, buffer)
+    from_file(rt, program, word, buffer)
 }
 
 // Follows the argument at an index.
 pub fn from_argument(
+    rt: HostRuntime,
     at: usize,
     program: &[u8],
     options: &[u8],
@@ -147,17 +227,34 @@ pub fn from_argument(
 ) -> Input
     ensures { IsPrefixLen result.count buffer.new }
 {
-    let mut word = io::buffer();
-    let length = os::arg(at, &mut word);
-    if os::errno() != 0 {
-        fail(program, b"file name");
-        return nothing();
-    }
-    from_word(&word[..length], program, options, expected, help, buffer)
+    let mut word = [0u8; LONGEST_WORD];
+    let code = match rt.arg(at, &mut word) {
+        Ok(length) => {
+            return from_word(
+                rt,
+                &word[..length],
+                program,
+                options,
+                expected,
+                help,
+                buffer,
+            );
+        }
+        Err(FillError::NotPresent) => INVALID_ARGUMENT,
+        Err(FillError::TooLong) => NAME_TOO_LONG,
+    };
+    fail(
+        rt,
+        program,
+        b"file name",
+        io::Error::from_raw_os_error(code),
+    );
+    nothing()
 }
 
 // Reads what the arguments from `at` on name: at most one of them.
 pub fn from_rest(
+    rt: HostRuntime,
     at: usize,
     program: &[u8],
     options: &[u8],
@@ -167,21 +264,27 @@ pub fn from_rest(
 ) -> Input
     ensures { IsPrefixLen result.count buffer.new }
 {
-    let words = os::arg_count();
+    let words = word_count(rt);
     if words <= at {
-        return from_standard(program, expected, buffer);
+        return from_standard(rt, program, expected, buffer);
     }
     if at < words - 1 {
-        return misused(program, options);
+        return misused(rt, program, options);
     }
-    from_argument(at, program, options, expected, help, buffer)
+    from_argument(rt, at, program, options, expected, help, buffer)
 }
 
 // Reads what the arguments of the program `program` name. `expected` names the input, and `help` says what the program does with it.
-pub fn from_arguments(program: &[u8], expected: &[u8], help: &[u8], buffer: &mut [u8]) -> Input
+pub fn from_arguments(
+    rt: HostRuntime,
+    program: &[u8],
+    expected: &[u8],
+    help: &[u8],
+    buffer: &mut [u8],
+) -> Input
     ensures { IsPrefixLen result.count buffer.new }
 {
-    from_rest(1, program, b"", expected, help, buffer)
+    from_rest(rt, 1, program, b"", expected, help, buffer)
 }
 
 // The input and the task that the option --task chose. If `one` is false there was no such option.
@@ -194,27 +297,33 @@ pub struct ChosenInput {
 }
 
 // Whether the first argument is the option --task.
-fn is_task_option() -> bool {
-    let mut word = io::buffer();
-    let length = os::arg(1, &mut word);
-    same(&word[..length], b"--task")
+fn is_task_option(rt: HostRuntime) -> bool {
+    let mut word = [0u8; LONGEST_WORD];
+    let length = word_at(rt, 1, &mut word);
+    &word[..length] == b"--task".as_slice()
 }
 
 // The argument after the option as a number; NONE or more if it is missing or not a number.
-fn task_word() -> u64 {
-    let mut word = io::buffer();
-    let length = os::arg(2, &mut word);
+fn task_word(rt: HostRuntime) -> u64 {
+    let mut word = [0u8; LONGEST_WORD];
+    let length = word_at(rt, 2, &mut word);
     field(&word[..length])
 }
 
 // The same as `from_arguments` for a program that takes --task TASK before the file.
-pub fn with_task(program: &[u8], expected: &[u8], help: &[u8], buffer: &mut [u8]) -> ChosenInput
-    ensures prefix_len { IsPrefixLen result.count buffer.new }
-    ensures task_bound { result.task < 4294967296 }
+pub fn with_task(
+    rt: HostRuntime,
+    program: &[u8],
+    expected: &[u8],
+    help: &[u8],
+    buffer: &mut [u8],
+) -> ChosenInput
+    ensures count { IsPrefixLen result.count buffer.new }
+    ensures task { result.task < 4294967296 }
 {
     let options = b" [--task TASK]";
-    if !is_task_option() {
-        let i = from_rest(1, program, options, expected, help, buffer);
+    if !is_task_option(rt) {
+        let i = from_rest(rt, 1, program, options, expected, help, buffer);
         return ChosenInput {
             read: i.read,
             count: i.count,
@@ -222,9 +331,9 @@ pub fn with_task(program: &[u8], expected: &[u8], help: &[u8], buffer: &mut [u8]
             task: 0,
         };
     }
-    let task = task_word();
+    let task = task_word(rt);
     if NONE <= task {
-        put_usage(STDERR_FILENO, program, options);
+        put_usage(&rt.stderr(), program, options);
         return ChosenInput {
             read: false,
             count: 0,
@@ -232,7 +341,7 @@ pub fn with_task(program: &[u8], expected: &[u8], help: &[u8], buffer: &mut [u8]
             task: 0,
         };
     }
-    let i = from_rest(3, program, options, expected, help, buffer);
+    let i = from_rest(rt, 3, program, options, expected, help, buffer);
     ChosenInput {
         read: i.read,
         count: i.count,

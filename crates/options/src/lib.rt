@@ -1,10 +1,12 @@
 // The options of a program that can be paused: --steps N, --done N0 N1 ..., --order FILE, each at most once, before the file.
-ghost use Rattle.std.specs.Prelude.{◌≡◌, ◌≤◌, ◌<◌};
-ghost use Rattle.io.specs.Counts.{IsPrefixLen};
+#![tactic(auto)]
 
-use check::same;
-use input::{Input, from_argument, from_rest, is_option, put_usage};
-use libc::STDERR_FILENO;
+ghost use Rattle.std.specs.Prelude.{◌≡◌, ◌≤◌, ◌<◌};
+ghost use Rattle.input.specs.Counts.{IsPrefixLen};
+
+use input::{
+    Input, LONGEST_WORD, from_argument, from_rest, is_option, put_usage, word_at, word_count,
+};
 use lines::fields::{NONE, field};
 
 // What `most` is if --steps is not given: more than any number that it takes.
@@ -39,37 +41,37 @@ struct Options {
 }
 
 // Whether an argument is this word.
-fn is_word(at: usize, name: &[u8]) -> bool {
-    let mut word = io::buffer();
-    let length = os::arg(at, &mut word);
-    same(&word[..length], name)
+fn is_word(rt: HostRuntime, at: usize, name: &[u8]) -> bool {
+    let mut word = [0u8; LONGEST_WORD];
+    let length = word_at(rt, at, &mut word);
+    &word[..length] == name
 }
 
 // Whether an argument can name a file: `-` is standard input, and any other word that begins with it is an option.
-fn is_name(at: usize) -> bool {
-    let mut word = io::buffer();
-    let length = os::arg(at, &mut word);
-    if same(&word[..length], b"-") {
+fn is_name(rt: HostRuntime, at: usize) -> bool {
+    let mut word = [0u8; LONGEST_WORD];
+    let length = word_at(rt, at, &mut word);
+    if &word[..length] == b"-".as_slice() {
         return true;
     }
     !is_option(&word[..length])
 }
 
 // An argument as a number; NONE or more if it is missing or not a number.
-fn number_at(at: usize) -> u64 {
-    let mut word = io::buffer();
-    let length = os::arg(at, &mut word);
+fn number_at(rt: HostRuntime, at: usize) -> u64 {
+    let mut word = [0u8; LONGEST_WORD];
+    let length = word_at(rt, at, &mut word);
     field(&word[..length])
 }
 
 // The first argument from `from` on that is not a number.
-fn past_numbers(from: usize, words: usize) -> usize
+fn past_numbers(rt: HostRuntime, from: usize, words: usize) -> usize
     requires { from ≤ words }
     ensures { result ≤ words }
 {
     let mut at = from;
     while at < words {
-        if NONE <= number_at(at) {
+        if NONE <= number_at(rt, at) {
             return at;
         }
         at += 1;
@@ -78,12 +80,12 @@ fn past_numbers(from: usize, words: usize) -> usize
 }
 
 // --steps and a number.
-fn take_steps(mut o: Options, words: usize) -> Options
+fn take_steps(rt: HostRuntime, mut o: Options, words: usize) -> Options
     requires { o.next < words }
     ensures { result.next ≤ words }
 {
     let at = o.next + 1;
-    let n = number_at(at);
+    let n = number_at(rt, at);
     o.wrong = true;
     if o.stepped {
         return o;
@@ -102,12 +104,12 @@ fn take_steps(mut o: Options, words: usize) -> Options
 }
 
 // --done and one count or more.
-fn take_done(mut o: Options, words: usize) -> Options
+fn take_done(rt: HostRuntime, mut o: Options, words: usize) -> Options
     requires { o.next < words }
     ensures { result.next ≤ words }
 {
     let at = o.next + 1;
-    let end = past_numbers(at, words);
+    let end = past_numbers(rt, at, words);
     o.wrong = true;
     if o.done != 0 {
         return o;
@@ -122,7 +124,7 @@ fn take_done(mut o: Options, words: usize) -> Options
 }
 
 // --order and a file's name.
-fn take_order(mut o: Options, words: usize) -> Options
+fn take_order(rt: HostRuntime, mut o: Options, words: usize) -> Options
     requires { o.next < words }
     ensures { result.next ≤ words }
 {
@@ -134,7 +136,7 @@ fn take_order(mut o: Options, words: usize) -> Options
     if words <= at {
         return o;
     }
-    if !is_name(at) {
+    if !is_name(rt, at) {
         return o;
     }
     o.wrong = false;
@@ -144,25 +146,25 @@ fn take_order(mut o: Options, words: usize) -> Options
 }
 
 // One option more. If the next argument is no option, or if the option is wrong, `next` stays.
-fn take_option(o: Options, words: usize) -> Options
+fn take_option(rt: HostRuntime, o: Options, words: usize) -> Options
     requires { o.next < words }
     ensures { result.next ≤ words }
 {
     let at = o.next;
-    if is_word(at, b"--steps") {
-        return take_steps(o, words);
+    if is_word(rt, at, b"--steps") {
+        return take_steps(rt, o, words);
     }
-    if is_word(at, b"--done") {
-        return take_done(o, words);
+    if is_word(rt, at, b"--done") {
+        return take_done(rt, o, words);
     }
-    if is_word(at, b"--order") {
-        return take_order(o, words);
+    if is_word(rt, at, b"--order") {
+        return take_order(rt, o, words);
     }
     o
 }
 
 // All options, up to the first argument that is none. An option that does not move `next` is wrong, and is the last.
-fn take_options(words: usize) -> Options {
+fn take_options(rt: HostRuntime, words: usize) -> Options {
     let mut o = Options {
         next: 1,
         wrong: false,
@@ -177,13 +179,13 @@ fn take_options(words: usize) -> Options {
         if words <= at {
             return o;
         }
-        o = take_option(o, words);
+        o = take_option(rt, o, words);
     }
     o
 }
 
 // Whether the options are not as the usage says, or the order and the recording would both be standard input.
-fn is_misuse(o: Options, words: usize) -> bool {
+fn is_misuse(rt: HostRuntime, o: Options, words: usize) -> bool {
     let order = o.order;
     let next = o.next;
     if MOST_WORDS < words {
@@ -195,23 +197,23 @@ fn is_misuse(o: Options, words: usize) -> bool {
     if order == 0 {
         return false;
     }
-    if !is_word(order, b"-") {
+    if !is_word(rt, order, b"-") {
         return false;
     }
     if words <= next {
         return true;
     }
-    is_word(next, b"-")
+    is_word(rt, next, b"-")
 }
 
 // Puts the counts from an argument on at the front, as far as there is room for them, and returns how many.
-fn put_counts(from: usize, words: usize, counts: &mut [u32]) -> usize
+fn put_counts(rt: HostRuntime, from: usize, words: usize, counts: &mut [u32]) -> usize
     ensures { IsPrefixLen result counts.new }
 {
     let mut n = 0;
     let mut at = from;
     while at < words {
-        let v = number_at(at);
+        let v = number_at(rt, at);
         if NONE <= v {
             return n;
         }
@@ -248,7 +250,14 @@ fn most_steps(o: Options) -> usize
 }
 
 // Reads the order from the file that an argument names; nothing if there is no such option.
-fn read_order(at: usize, program: &[u8], options: &[u8], help: &[u8], order: &mut [u8]) -> Input
+fn read_order(
+    rt: HostRuntime,
+    at: usize,
+    program: &[u8],
+    options: &[u8],
+    help: &[u8],
+    order: &mut [u8],
+) -> Input
     ensures { IsPrefixLen result.count order.new }
 {
     if at == 0 {
@@ -257,21 +266,22 @@ fn read_order(at: usize, program: &[u8], options: &[u8], help: &[u8], order: &mu
             count: 0,
         };
     }
-    from_argument(at, program, options, b"an order", help, order)
+    from_argument(rt, at, program, options, b"an order", help, order)
 }
 
 // Stores the counts if there is such an option.
-fn read_counts(at: usize, words: usize, counts: &mut [u32]) -> usize
+fn read_counts(rt: HostRuntime, at: usize, words: usize, counts: &mut [u32]) -> usize
     ensures { IsPrefixLen result counts.new }
 {
     if at == 0 {
         return 0;
     }
-    put_counts(at, words, counts)
+    put_counts(rt, at, words, counts)
 }
 
 // Reads what the options ask for, the recording first: if it cannot be read, or --help stands for it, the order is left alone.
 fn follow(
+    rt: HostRuntime,
     o: Options,
     words: usize,
     program: &[u8],
@@ -282,20 +292,20 @@ fn follow(
     counts: &mut [u32],
     order: &mut [u8],
 ) -> PausingInput
-    ensures prefix_len { IsPrefixLen result.count buffer.new }
-    ensures prefix_len_2 { IsPrefixLen result.order order.new }
-    ensures prefix_len_3 { IsPrefixLen result.counts counts.new }
+    ensures count_bound { IsPrefixLen result.count buffer.new }
+    ensures order_bound { IsPrefixLen result.order order.new }
+    ensures counts_bound { IsPrefixLen result.counts counts.new }
     ensures most_bound { result.most ≤ 4294967296 }
 {
-    let i = from_rest(o.next, program, options, expected, help, buffer);
+    let i = from_rest(rt, o.next, program, options, expected, help, buffer);
     if !i.read {
         return nothing();
     }
-    let j = read_order(o.order, program, options, help, order);
+    let j = read_order(rt, o.order, program, options, help, order);
     if !j.read {
         return nothing();
     }
-    let n = read_counts(o.done, words, counts);
+    let n = read_counts(rt, o.done, words, counts);
     PausingInput {
         read: true,
         count: i.count,
@@ -309,6 +319,7 @@ fn follow(
 
 // The same as `input::from_arguments` for a program that takes these options before the file.
 pub fn with_pause(
+    rt: HostRuntime,
     program: &[u8],
     expected: &[u8],
     help: &[u8],
@@ -316,19 +327,19 @@ pub fn with_pause(
     counts: &mut [u32],
     order: &mut [u8],
 ) -> PausingInput
-    ensures prefix_len { IsPrefixLen result.count buffer.new }
-    ensures prefix_len_2 { IsPrefixLen result.order order.new }
-    ensures prefix_len_3 { IsPrefixLen result.counts counts.new }
+    ensures count_bound { IsPrefixLen result.count buffer.new }
+    ensures order_bound { IsPrefixLen result.order order.new }
+    ensures counts_bound { IsPrefixLen result.counts counts.new }
     ensures most_bound { result.most ≤ 4294967296 }
 {
     let options = b" [--steps N] [--done N0 N1 ...] [--order FILE]";
-    let words = os::arg_count();
-    let o = take_options(words);
-    if is_misuse(o, words) {
-        put_usage(STDERR_FILENO, program, options);
+    let words = word_count(rt);
+    let o = take_options(rt, words);
+    if is_misuse(rt, o, words) {
+        put_usage(&rt.stderr(), program, options);
         return nothing();
     }
     follow(
-        o, words, program, options, expected, help, buffer, counts, order,
+        rt, o, words, program, options, expected, help, buffer, counts, order,
     )
 }

@@ -1,12 +1,16 @@
 // The playable program (document 02, F-2): whether a recording from a file or standard input can be played to its end, and in which
 // order.
+#![tactic(auto)]
+
+use input::complain;
 use verdict::{space, tell};
 use waits::MOST_WAITS;
 
 // Reads one byte more than a recording may have, to notice a longer one.
-fn main() {
+fn main(rt: HostRuntime) {
     let mut bytes = [0u8; 65537];
     let asked = input::from_arguments(
+        rt,
         b"playable",
         b"a recording",
         b"Says whether a recording can be played to its end: is there an order of all accesses that keeps each
@@ -33,8 +37,8 @@ There is no exit status: look at what was written.
     let told = tell(&bytes[..n], &mut out, &mut why);
     let text = told.text;
     let reasons = told.reasons;
-    if !io::write_all(1, &out[..text]) {
-        io::write_all(2, b"playable: could not write all of the answer\n");
+    if rt.stdout().write_all(&out[..text]).is_err() {
+        complain(rt, b"playable: could not write all of the answer\n");
     }
-    io::write_all(2, &why[..reasons]);
+    complain(rt, &why[..reasons]);
 }

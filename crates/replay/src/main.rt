@@ -1,43 +1,54 @@
 // The replay program (document 01; document 02, F-4): plays a recording from a file or standard input, always the lowest ready task, one
 // line for each step. Options pause it or give another order.
+#![tactic(auto)]
+
+use input::complain;
 use options::with_pause;
 use waits::MOST_WAITS;
 
 // Writes the answer and what there is to say about it.
-fn put(text: &[u8], reasons: &[u8]) {
-    if !io::write_all(1, text) {
-        io::write_all(2, b"replay: could not write all of the answer\n");
+fn put(rt: HostRuntime, text: &[u8], reasons: &[u8]) {
+    if rt.stdout().write_all(text).is_err() {
+        complain(rt, b"replay: could not write all of the answer\n");
     }
-    io::write_all(2, reasons);
+    complain(rt, reasons);
 }
 
 // Plays it to its end.
-fn play(bytes: &[u8]) {
+fn play(rt: HostRuntime, bytes: &[u8]) {
     let mut out = transcript::space();
     let mut why = [0u8; MOST_WAITS];
     let told = transcript::tell(bytes, &mut out, &mut why);
     let text = told.text;
     let reasons = told.reasons;
-    put(&out[..text], &why[..reasons]);
+    put(rt, &out[..text], &why[..reasons]);
 }
 
 // Plays the steps that the options ask for. It is called from two places, so that its buffers do not become part of the frame of `main`,
 // which every start pays for.
-fn play_asked(bytes: &[u8], most: usize, counts: &[u32], ordered: bool, order: &[u8]) {
+fn play_asked(
+    rt: HostRuntime,
+    bytes: &[u8],
+    most: usize,
+    counts: &[u32],
+    ordered: bool,
+    order: &[u8],
+) {
     let mut out = pause::space();
     let mut why = [0u8; MOST_WAITS];
     let told = pause::tell(bytes, most, counts, ordered, order, &mut out, &mut why);
     let text = told.text;
     let reasons = told.reasons;
-    put(&out[..text], &why[..reasons]);
+    put(rt, &out[..text], &why[..reasons]);
 }
 
 // Reads one byte more than a recording and an order may have, and one count more than there can be tasks, to notice what is too long.
-fn main() {
+fn main(rt: HostRuntime) {
     let mut bytes = [0u8; 65537];
     let mut counts = [0u32; 17];
     let mut order = [0u8; 65537];
     let asked = with_pause(
+        rt,
         b"replay",
         b"a recording",
         b"Plays a recording, always the lowest ready task next.
@@ -74,12 +85,12 @@ There is no exit status: look at what was written.
     }
     let n = asked.count;
     if !asked.asked {
-        return play(&bytes[..n]);
+        return play(rt, &bytes[..n]);
     }
     let k = asked.counts;
     if !asked.ordered {
-        return play_asked(&bytes[..n], asked.most, &counts[..k], false, b"");
+        return play_asked(rt, &bytes[..n], asked.most, &counts[..k], false, b"");
     }
     let m = asked.order;
-    play_asked(&bytes[..n], asked.most, &counts[..k], true, &order[..m])
+    play_asked(rt, &bytes[..n], asked.most, &counts[..k], true, &order[..m])
 }

@@ -1,10 +1,13 @@
 // The show program (document 02, F-3): lists the records of a recording from a file or standard input.
+#![tactic(auto)]
+
 use listing::{space, tell};
 
 // Reads one byte more than a recording may have, to notice a longer one.
-fn main() {
+fn main(rt: HostRuntime) {
     let mut bytes = [0u8; 65537];
     let asked = input::with_task(
+        rt,
         b"show",
         b"a recording",
         b"Lists the records of a recording, one a line, in the order of the file. Nothing is played.
@@ -38,7 +41,7 @@ There is no exit status: look at what was written.
     let n = asked.count;
     let mut out = space();
     let text = tell(&bytes[..n], asked.one, asked.task, &mut out);
-    if !io::write_all(1, &out[..text]) {
-        io::write_all(2, b"show: could not write all of the list\n");
+    if rt.stdout().write_all(&out[..text]).is_err() {
+        input::complain(rt, b"show: could not write all of the list\n");
     }
 }
