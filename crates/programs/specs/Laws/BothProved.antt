@@ -16,7 +16,7 @@ use Rattle.reader.specs.Parse.{Parsed, parse}
 use Rattle.entries.specs.declared.Checked.{Checked}
 use Rattle.entries.specs.Reading.{read as reads}
 use Rattle.replayer.specs.declared.Stepped.{Stepped}
-use Rattle.scheduler.specs.Finish.{Play}
+use Rattle.scheduler.specs.Finish.{stepped_by, Play}
 use Rattle.replayer.specs.OpenOf.{opened_run}
 use Rattle.scheduler.specs.Schedule.{schedule_of, played_by}
 use Rattle.scheduler.specs.Laws.Schedule.{AllTaken as AllTakenBy}
@@ -73,7 +73,7 @@ done_more b x steps t y = fun_ext (λ u. tally-more u b x steps t ∙ elim (ℕ_
 bench-taken : (b : List ℕ) (x : Play) (steps : List ℕ) → AllTakenBy b x steps → AllTaken b (record { run = x.run; memory = x.memory }) steps
 unfolding AllTakenBy AllTaken
 bench-taken b x [] w = tt
-bench-taken b x (t ∷ steps) w = (eq-eqb _ _ w.0, bench-taken b _ steps w.1)
+bench-taken b x (t ∷ steps) w = (eq-eqb _ _ w.0, bench-taken b (stepped_by b x t) steps w.1)
 
 -- the lines of taken steps, after any other steps
 module _ (o : Opening) (asked : List Asked) (outs : ℕ → List ℕ) (lent : List ℕ) (f : Faithful o asked outs lent) where
