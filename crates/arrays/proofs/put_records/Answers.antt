@@ -14,10 +14,10 @@ loop-i-init c = (omega arith, two_none _ _ _ _ _, one_none _ _ _)
 
 pub loop-i-preserved : goal.loop-i-preserved
 loop-i-preserved c = let l = c.loop-i in (
-      omega arith,
-      rw (c.case_of.ensures, c.holder_of.ensures, l.invariant.1) (two_more _ 37 2085 l.i _ _ (omega arith)),
-      rw (c.share_of.ensures, l.invariant.2) (store-more _ 17 l.i _),
-    )
+  omega arith,
+  rw (c.case_of.ensures, c.holder_of.ensures, l.invariant.1) (two_more _ 37 2085 l.i _ _ (omega arith)),
+  rw (c.share_of.ensures, l.invariant.2) (store-more _ 17 l.i _),
+)
 
 pub returns : goal.returns
 returns c = let l = c.loop-i in let e : l.i ≡ max_cells = omega arith in record { halves_after = rw e at l.invariant.1; words_after = rw e at l.invariant.2 }

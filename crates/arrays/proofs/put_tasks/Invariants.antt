@@ -10,7 +10,7 @@ use Prim.Native.Nat.{◌≤◌, ◌-◌}
 use Rattle.arrays.proofs.put_tasks.Given as goal
 
 abbrev pub invariant-loop-t : goal.invariant-loop-t
-invariant-loop-t l =     (l.t ≤ max_tasks) × (l.halves ≡ two l.initial.halves 5 21 (λ k. get_or l.done k 0) (λ k. get_or l.took k 0) l.t) × (l.words ≡ store l.initial.words 1 (first_of l.seen l.t))
+invariant-loop-t l = (l.t ≤ max_tasks) × (l.halves ≡ two l.initial.halves 5 21 (λ k. get_or l.done k 0) (λ k. get_or l.took k 0) l.t) × (l.words ≡ store l.initial.words 1 (first_of l.seen l.t))
 
 abbrev pub decreases-loop-t : goal.decreases-loop-t
-decreases-loop-t l =     max_tasks - l.t
+decreases-loop-t l = max_tasks - l.t

@@ -11,7 +11,7 @@ use Rattle.tracker.specs.Laws.Opened.{cells_none, cells_more, object-below}
 use Rattle.opening.proofs.owned_cells.Given as goal
 
 abbrev pub invariant-loop-i : goal.invariant-loop-i
-invariant-loop-i l =     (l.i ≤ l.i-end) × (length l.cells ≡ max_cells) × (l.cells ≡ owned_cells l.owners l.fields l.i)
+invariant-loop-i l = (l.i ≤ l.i-end) × (length l.cells ≡ max_cells) × (l.cells ≡ owned_cells l.owners l.fields l.i)
 
 abbrev pub decreases-loop-i : goal.decreases-loop-i
 decreases-loop-i l = l.i-end - l.i

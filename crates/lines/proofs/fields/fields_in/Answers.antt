@@ -10,7 +10,7 @@ pub loop-at-init : goal.loop-at-init
 loop-at-init c = (omega arith, omega arith, omega arith, reads_none _ _)
 
 pub returns-then-from-to : goal.returns-then-from-to
-returns-then-from-to c = 
+returns-then-from-to c =
     let both = let l = c.loop-at in reads_all _ _ l.at l.count l.out l.invariant.3 (c.next_word-w.ensures.none c.if-from-to.true) in
     record { value = both.0; out_after = both.1 }
 
@@ -25,6 +25,6 @@ loop-at-preserved c = let l = c.loop-at in
     )
 
 pub returns : goal.returns
-returns c = 
+returns c =
     let both = let l = c.loop-at in reads_all _ _ l.at l.count l.out l.invariant.3 (words-end _ l.at (omega arith)) in
     record { value = both.0; out_after = both.1 }

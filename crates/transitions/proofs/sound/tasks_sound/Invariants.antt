@@ -15,7 +15,7 @@ use Rattle.tracker.specs.Sound.{task_sound_at, tasks_sound}
 use Rattle.transitions.proofs.sound.tasks_sound.Given as goal
 
 abbrev pub invariant-loop-i : goal.invariant-loop-i
-invariant-loop-i l =     (l.i ≤ l.n) × ((all_below (task_sound_at l.done l.seen l.took l.shares) l.i ≡ true) × ((l.sum ≡ sum_of l.done l.i) × (l.sum ≤ max_accesses * l.i)))
+invariant-loop-i l = (l.i ≤ l.n) × ((all_below (task_sound_at l.done l.seen l.took l.shares) l.i ≡ true) × ((l.sum ≡ sum_of l.done l.i) × (l.sum ≤ max_accesses * l.i)))
 
 abbrev pub decreases-loop-i : goal.decreases-loop-i
 decreases-loop-i l = l.n - l.i
