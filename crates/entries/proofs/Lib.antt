@@ -1,1 +1,2 @@
 -- What the else branch of a `let .. else` knows: the record is not of the kind that was asked for.
+pub mod Laws

@@ -8,4 +8,3 @@ pub mod Part
 pub mod Reading
 pub mod Recording
 pub mod Records
-pub mod Laws

@@ -8,4 +8,3 @@ pub mod Paused
 pub mod Playable
 pub mod RunA
 pub mod Statement
-pub mod Laws

@@ -7,4 +7,3 @@ pub mod Memory
 pub mod Ready
 pub mod Replay
 pub mod Sound
-pub mod Laws

@@ -1,10 +1,5 @@
--- The laws of this crate's definitions. All of them are proved; a reader does not have to trust anything here.
-pub mod All
-pub mod Dones
-pub mod Each
-pub mod FirstUnmet
+-- Definitions that the contracts of functions speak of, beside those of the paper's words.
 pub mod Look
 pub mod Moved
 pub mod Next
-pub mod Opens
 pub mod Sound

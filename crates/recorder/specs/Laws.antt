@@ -1,4 +1,2 @@
--- The laws of this crate's definitions. All of them are proved; a reader does not have to trust anything here.
-pub mod Accepted
+-- Definitions that the contracts of functions speak of, beside those of the paper's words.
 pub mod AccessCode
-pub mod Full

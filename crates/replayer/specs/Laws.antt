@@ -1,12 +1,2 @@
--- The laws of this crate's definitions. All of them are proved; a reader does not have to trust anything here.
-pub mod Along
-pub mod ByHead
-pub mod Frame
-pub mod Left
-pub mod OpenCode
-pub mod OpenOf
-pub mod OpenedOf
-pub mod ReadyOf
-pub mod StepCode
+-- Definitions that the contracts of functions speak of, beside those of the paper's words.
 pub mod StepOf
-pub mod Word

@@ -1,10 +1,6 @@
--- The laws of this crate's definitions. All of them are proved; a reader does not have to trust anything here.
+-- Definitions that the contracts of functions speak of, beside those of the paper's words.
 pub mod Columns
 pub mod ColumnsCode
 pub mod Finish
 pub mod Lowest
-pub mod Opened
-pub mod Schedule
-pub mod ScheduleCode
-pub mod Settled
 pub mod Visit

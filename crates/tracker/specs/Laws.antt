@@ -1,25 +1,4 @@
--- The laws of this crate's definitions. All of them are proved; a reader does not have to trust anything here.
-pub mod Accesses
-pub mod After
-pub mod Covered
-pub mod Covers
-pub mod EachRow
-pub mod Effects
-pub mod Facts
-pub mod Implied
-pub mod Invariant
-pub mod Kept
+-- Definitions that the contracts of functions speak of, beside those of the paper's words.
 pub mod Counters
-pub mod Moves
-pub mod Named
-pub mod OneAccess
-pub mod Opened
 pub mod Plan
-pub mod Range
 pub mod Scan
-pub mod Seen
-pub mod State
-pub mod Sum
-pub mod Tracks
-pub mod View
-pub mod Written

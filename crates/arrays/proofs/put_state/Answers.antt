@@ -1,5 +1,5 @@
 use Rattle.codec.specs.Limit.{max_tasks, max_cells}
-use Rattle.pending.specs.Laws.Each.{each-length}
+use Rattle.pending.proofs.Laws.Each.{each-length}
 use Rattle.arrays.specs.Laws.HalvesCode.{halves_all, words-all}
 use Rattle.arrays.proofs.put_state.Goals as goal
 

@@ -6,10 +6,10 @@ use Rattle.tracker.specs.declared.Locality.TheVariants.{ReadShared}
 use Rattle.codec.specs.Laws.Limit.{within-below}
 use Rattle.codec.specs.Cell.{cells_of}
 use Rattle.codec.specs.Limit.{max_cells}
-use Rattle.tracker.specs.Laws.Scan.{scan_bad}
+use Rattle.tracker.proofs.Laws.Scan.{scan_bad}
 use Rattle.tracker.specs.Sound.{cell_sound, sound_of}
 use Rattle.tracker.specs.State.{owned}
-use Rattle.pending.specs.Laws.Each.{each_at}
+use Rattle.pending.proofs.Laws.Each.{each_at}
 use Rattle.arrays.specs.Halves.{record_of, record_in, state_in}
 
 without_meaning : (case task share : ℕ) → 2 < case → record_of case task share ≡ record { locality = ReadShared 0 }

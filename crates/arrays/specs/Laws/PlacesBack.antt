@@ -9,7 +9,7 @@ use Rattle.pending.specs.declared.TaskRun.{TaskRun}
 use Rattle.pending.specs.declared.Run.{Run}
 use Rattle.pending.specs.Laws.Moved.{Shaped}
 use Rattle.pending.specs.Run.{task_at, blank_task}
-use Rattle.pending.specs.Laws.Each.{each_of}
+use Rattle.pending.proofs.Laws.Each.{each_of}
 use Rattle.arrays.specs.Places.{task_in, run_in, task_places, first_places, places_of}
 use Rattle.arrays.specs.Laws.PlacesCode.{places_length}
 use Rattle.arrays.specs.Laws.Stores.{store-whole, behind}

@@ -5,7 +5,7 @@ use Rattle.std.proofs.lemmas.List.{set_comm}
 use Rattle.codec.specs.Store.{store}
 use Rattle.codec.specs.Laws.Store.{store-behind, store_split}
 use Rattle.pending.specs.Each.{each}
-use Rattle.pending.specs.Laws.Each.{each-length}
+use Rattle.pending.proofs.Laws.Each.{each-length}
 
 -- setting an entry before a stored part
 pub store-set : (l : List ℕ) (i at v : ℕ) (xs : List ℕ) → i < at → set (store l at xs) i v ≡ store (set l i v) at xs

@@ -6,7 +6,7 @@ use Rattle.codec.specs.Laws.Decide.{passes, fails, split}
 use Rattle.entries.specs.declared.Checked.{Checked}
 use Rattle.entries.specs.Reading.{stop}
 use Rattle.replayer.specs.declared.Stepped.{Stepped}
-use Rattle.replayer.specs.Laws.StepOf.{refused-stays}
+use Rattle.replayer.proofs.Laws.StepOf.{refused-stays}
 use Rattle.replayer.specs.StepOf.{step_of}
 use Rattle.replay_lines.specs.Block.{turned_line}
 use Rattle.replay_lines.specs.Lines.{line_of}

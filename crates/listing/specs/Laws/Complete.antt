@@ -25,7 +25,7 @@ use Rattle.codec.specs.Limit.{max_fields}
 use Rattle.codec.specs.Number.{short}
 use Rattle.entries.specs.Bytes.{orderings_bytes, entry_bytes, entry_length, body_bytes, sections_bytes, bytes_of}
 use Rattle.entries.specs.declared.Limits.{Limits}
-use Rattle.entries.specs.Laws.Bytes.{entry_length_lem}
+use Rattle.entries.proofs.Laws.Bytes.{entry_length_lem}
 use Rattle.entries.specs.Reading.{read}
 use Rattle.entries.specs.Recording.{Entry, Recording}
 use Rattle.entries.specs.Records.{records_in}

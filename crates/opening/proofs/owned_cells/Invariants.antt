@@ -7,7 +7,7 @@ use Rattle.codec.specs.Cell.{width_of}
 use Rattle.codec.specs.Laws.Cell.{width_some, cells_few, object-is}
 use Rattle.codec.specs.Limit.{max_cells}
 use Rattle.tracker.specs.Opened.{owned_cells}
-use Rattle.tracker.specs.Laws.Opened.{cells_none, cells_more, object-below}
+use Rattle.tracker.proofs.Laws.Opened.{cells_none, cells_more, object-below}
 use Rattle.opening.proofs.owned_cells.Given as goal
 
 abbrev pub invariant-loop-i : goal.invariant-loop-i

@@ -4,9 +4,9 @@ use lib.ListN.{length, take}
 use Prim.Native.Nat.{◌≤◌}
 use lib.Seq.{length-take-le}
 use Rattle.replay_lines.specs.Limits.{most_steps}
-use Rattle.scheduler.specs.Laws.Schedule.{schedule_short}
+use Rattle.scheduler.proofs.Laws.Schedule.{schedule_short}
 use Rattle.scheduler.specs.Schedule.{schedule_of}
-use Rattle.transcript.specs.Laws.Answered.{Ordered, ordered}
+use Rattle.transcript.proofs.Laws.Answered.{Ordered, ordered}
 use Rattle.pause.specs.Laws.Keeps.{within_sound, within_shaped, within-left}
 use Rattle.pause.specs.Laws.Widen.{front_of}
 use Rattle.follow.specs.Within.{run_within}

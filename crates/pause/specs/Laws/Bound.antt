@@ -9,14 +9,14 @@ use Rattle.codec.specs.Field.{Bytes}
 use Rattle.codec.specs.Laws.Cell.{cells_few}
 use Rattle.codec.specs.Laws.Decide.{passes, fails, split}
 use Rattle.codec.specs.Number.{no_task, finished, held}
-use Rattle.pending.specs.Laws.Sound.{sound_facts}
+use Rattle.pending.proofs.Laws.Sound.{sound_facts}
 use Rattle.replayer.specs.ReadyOf.{ready_of}
-use Rattle.replay_lines.specs.Laws.Block.{turned_few, block_few}
-use Rattle.replay_lines.specs.Laws.LinesBound.{end-few, memory-few, refusal_few}
+use Rattle.replay_lines.proofs.Laws.Block.{turned_few, block_few}
+use Rattle.replay_lines.proofs.Laws.LinesBound.{end-few, memory-few, refusal_few}
 use Rattle.scheduler.specs.Finish.{Play, takes_step, finished_of}
-use Rattle.transcript.specs.Laws.ToldBound.{Small, stays}
-use Rattle.waits.specs.Laws.Differ.{differ_short}
-use Rattle.waits.specs.Laws.Waits.{waits_short}
+use Rattle.transcript.proofs.Laws.ToldBound.{Small, stays}
+use Rattle.waits.proofs.Laws.Differ.{differ_short}
+use Rattle.waits.proofs.Laws.Waits.{waits_short}
 use Rattle.waits.specs.Waits.{waits_most}
 use Rattle.pause.specs.Ending.{ending_of, told_of, waits_at, why_of}
 use Rattle.follow.specs.Follow.{Followed, is_passed, answer_at, tried_of, is_over, followed_of}

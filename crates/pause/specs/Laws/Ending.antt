@@ -2,7 +2,8 @@
 use Rattle.std.specs.Prelude.{◌≡◌, true, false, List, [], ◌++◌, ℕ, ◌+◌, length}
 use Rattle.std.proofs.Common.{eq-eqb, ne_eqb, length-append}
 use Rattle.pending.specs.declared.Run.{Run}
-use Rattle.pending.specs.Laws.Sound.{Sound, sound_test}
+use Rattle.pending.specs.Laws.Sound.{Sound}
+use Rattle.pending.proofs.Laws.Sound.{sound_test}
 use Rattle.playback.specs.declared.finish.Completion.{Completion}
 use Rattle.playback.specs.Shown.{finished_call}
 use Rattle.replayer.specs.ReadyOf.{ready_of}

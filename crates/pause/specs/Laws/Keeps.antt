@@ -8,13 +8,14 @@ use Rattle.codec.specs.Laws.Decide.{passes, fails, split}
 use Rattle.codec.specs.Limit.{max_tasks}
 use Rattle.pending.specs.declared.Run.{Run}
 use Rattle.pending.specs.declared.TaskRun.{TaskRun}
-use Rattle.pending.specs.Laws.Moved.{Shaped, moved-own, moved_other}
-use Rattle.pending.specs.Laws.Sound.{sound_facts, sound_test}
+use Rattle.pending.specs.Laws.Moved.{Shaped}
+use Rattle.pending.proofs.Laws.Moved.{moved-own, moved_other}
+use Rattle.pending.proofs.Laws.Sound.{sound_facts, sound_test}
 use Rattle.pending.specs.Run.{task_at, done_of, moved_of}
 use Rattle.pending.specs.Sound.{sound_of}
-use Rattle.replayer.specs.Laws.StepOf.{taken, turned, differing, step_goes}
+use Rattle.replayer.proofs.Laws.StepOf.{taken, turned, differing, step_goes}
 use Rattle.scheduler.specs.Finish.{Play, takes_step, stepped_by, left_in, left_over}
-use Rattle.transcript.specs.Laws.ToldBound.{Small, stays}
+use Rattle.transcript.proofs.Laws.ToldBound.{Small, stays}
 use Rattle.follow.specs.Follow.{is_passed, answer_at, tried_of, is_over, followed_of}
 use Rattle.follow.specs.Laws.Within.{held-length}
 use Rattle.follow.specs.Within.{is_there, held_by, held_to, run_within}

@@ -12,22 +12,22 @@ use Rattle.codec.specs.Number.{entries as wrong_length}
 use Rattle.order.specs.Order.{wrong_line, tasks_of}
 use Rattle.reader.specs.Parse.{parse}
 use Rattle.replayer.specs.declared.Opened.{Opened as OpenAnswer}
-use Rattle.replayer.specs.Laws.OpenOf.{opened-stands}
+use Rattle.replayer.proofs.Laws.OpenOf.{opened-stands}
 use Rattle.replay_lines.specs.declared.Written.{Written}
-use Rattle.replay_lines.specs.Laws.LinesBound.{refusal_few}
+use Rattle.replay_lines.proofs.Laws.LinesBound.{refusal_few}
 use Rattle.replay_lines.specs.Limits.{longest, most_steps}
 use Rattle.replay_lines.specs.Lines.{long_line, refusal_of}
 use Rattle.replay_lines.specs.Streams.{Streams}
 use Rattle.pending.specs.declared.Run.{Run}
-use Rattle.pending.specs.Laws.Sound.{sound_facts}
+use Rattle.pending.proofs.Laws.Sound.{sound_facts}
 use Rattle.scheduler.specs.Finish.{left_over}
-use Rattle.scheduler.specs.Laws.Opened.{opened-left}
+use Rattle.scheduler.proofs.Laws.Opened.{opened-left}
 use Rattle.scheduler.specs.Schedule.{schedule_of}
 use Rattle.text.specs.Appended.{Appended}
 use Rattle.text.specs.Laws.Appended.{nothing, joined}
 use Rattle.text.specs.Laws.Decimal.{decimal_short, field-length}
-use Rattle.replayer.specs.Laws.ByHead.{Opening, away, found}
-use Rattle.transcript.specs.Laws.TextBound.{opened_small}
+use Rattle.replayer.proofs.Laws.ByHead.{Opening, away, found}
+use Rattle.transcript.proofs.Laws.TextBound.{opened_small}
 use Rattle.waits.specs.Differ.{differ_of}
 use Rattle.waits.specs.Waits.{waits_most}
 use Rattle.pause.specs.Ending.{ending_of, told_of, waits_at, why_of, said_of}

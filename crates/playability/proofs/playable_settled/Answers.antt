@@ -1,6 +1,6 @@
 use mathlib.Core.Path.{◌≡◌, ap, ◌∙◌}
 use Rattle.playability.specs.PlayableOf.{PlayableOutcome}
-use Rattle.playability.specs.Laws.PlayableCode.{playable_refused, settled_sound, playable_held, playable_short, playable_order}
+use Rattle.playability.proofs.Laws.PlayableCode.{playable_refused, settled_sound, playable_held, playable_short, playable_order}
 use Rattle.playability.proofs.Else.{not-held}
 use Rattle.playability.proofs.playable_settled.Goals as goal
 

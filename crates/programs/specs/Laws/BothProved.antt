@@ -9,7 +9,7 @@ use Rattle.codec.specs.Cell.{object_at, field_at}
 use Rattle.codec.specs.Kind.{access_kind, stands_under}
 use Rattle.codec.specs.Laws.Kind.{kind-reads, kind-stands, stands-bare}
 use Rattle.history.specs.Entry.{Act, read, write, acquire}
-use Rattle.history.specs.Laws.OneMore.{one_more-own, one_more-other}
+use Rattle.history.proofs.Laws.OneMore.{one_more-own, one_more-other}
 use Rattle.history.specs.Replay.{one_more}
 use Rattle.codec.specs.Bit.{bit}
 use Rattle.reader.specs.Parse.{Parsed, parse}
@@ -19,19 +19,19 @@ use Rattle.replayer.specs.declared.Stepped.{Stepped}
 use Rattle.scheduler.specs.Finish.{stepped_by, Play}
 use Rattle.replayer.specs.OpenOf.{opened_run}
 use Rattle.scheduler.specs.Schedule.{schedule_of, played_by}
-use Rattle.scheduler.specs.Laws.Schedule.{AllTaken as AllTakenBy}
+use Rattle.scheduler.proofs.Laws.Schedule.{AllTaken as AllTakenBy}
 use Rattle.replayer.specs.StepOf.{step_of}
 use Rattle.fidelity.specs.Bench.{Bench, bench_of, stepped, stepped_all, takes, tally_of, AllTaken}
 use Rattle.fidelity.specs.Box.{Opening, Asked, last_box, recorded, recording_of, recording_by, cells_by}
-use Rattle.fidelity.specs.Laws.LowestFirst.{box-bench, box-taken, box-ends, box-all-done, box-steps, box-finished}
+use Rattle.fidelity.proofs.Laws.LowestFirst.{box-bench, box-taken, box-ends, box-all-done, box-steps, box-finished}
 use Rattle.fidelity.specs.Statement.{Accepted, Shows, Faithful, after, done}
-use Rattle.fidelity.specs.Laws.Theorem.{demand-3}
+use Rattle.fidelity.proofs.Laws.Theorem.{demand-3}
 use Rattle.script.specs.RecordOf.{record_of}
-use Rattle.replay_lines.specs.Laws.Lines.{object-field, object-bare}
+use Rattle.replay_lines.proofs.Laws.Lines.{object-field, object-bare}
 use Rattle.replay_lines.specs.Lines.{object_of, line_of}
 use Rattle.text.specs.Decimal.{field_of}
-use Rattle.transcript.specs.Laws.Text.{text_of_steps}
-use Rattle.transcript.specs.Laws.Told.{taken-stop, taken-steps}
+use Rattle.transcript.proofs.Laws.Text.{text_of_steps}
+use Rattle.transcript.proofs.Laws.Told.{taken-stop, taken-steps}
 use Rattle.transcript.specs.Told.{lines_of}
 use Rattle.programs.specs.Both.{cell_text, access_line, Lines, none, more, Shown}
 use Rattle.programs.specs.WholeRecording.{outs_of}

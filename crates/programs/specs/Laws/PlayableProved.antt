@@ -3,13 +3,13 @@ use Rattle.std.specs.Prelude.{List, ◌≡◌, refl, ℕ, length, replicate}
 use Rattle.std.proofs.Common.{◌∙◌}
 use Rattle.std.proofs.lemmas.List.{length-replicate}
 use Rattle.fidelity.specs.Box.{last_box, recording_of, cells_by}
-use Rattle.fidelity.specs.Laws.BoxMatches.{parsed_by, recording-parsed}
-use Rattle.fidelity.specs.Laws.LowestFirst.{box-steps}
-use Rattle.fidelity.specs.Laws.Playable.{box-none-left}
+use Rattle.fidelity.proofs.Laws.BoxMatches.{parsed_by, recording-parsed}
+use Rattle.fidelity.proofs.Laws.LowestFirst.{box-steps}
+use Rattle.fidelity.proofs.Laws.Playable.{box-none-left}
 use Rattle.fidelity.specs.Playable.{Packed}
-use Rattle.playability.specs.Laws.Held.{hold_free}
-use Rattle.playability.specs.Laws.Theorem.{free_plays}
-use Rattle.playability.specs.Laws.Walk.{order-reached}
+use Rattle.playability.proofs.Laws.Held.{hold_free}
+use Rattle.playability.proofs.Laws.Theorem.{free_plays}
+use Rattle.playability.proofs.Laws.Walk.{order-reached}
 use Rattle.replayer.specs.OpenOf.{opened_run}
 use Rattle.scheduler.specs.Schedule.{schedule_of}
 use Rattle.script.specs.RecordOf.{record_of}

@@ -12,11 +12,11 @@ use Rattle.codec.specs.Cell.{cell_of}
 use Rattle.codec.specs.Laws.Decide.{passes, fails, split, both_pass}
 use Rattle.history.specs.History.{History}
 use Rattle.recorder.specs.AccessOf.{is_write, access_number, accepted, refused, access_of, value_after}
-use Rattle.recorder.specs.Laws.Accepted.{number-takes, written-length as entry-written}
+use Rattle.recorder.proofs.Laws.Accepted.{number-takes, written-length as entry-written}
 use Rattle.recorder.specs.WholeRun.{Call, AccessCall, Box, outcome, called, left_by, called_all}
 use Rattle.tracker.specs.declared.State.{State}
 use Rattle.fidelity.specs.Box.{Opening, opened_by, Asked, calls_of, first_box, last_box, accepts, added_by, recorded_from, recorded}
-use Rattle.fidelity.specs.Laws.FirstBox.{follows_last}
+use Rattle.fidelity.proofs.Laws.FirstBox.{follows_last}
 use Rattle.codec.specs.Laws.Store.{store-front}
 use Rattle.programs.specs.Laws.Numbered.{Numbered}
 use Rattle.programs.specs.Wanted.{wanted_in, wanted_by}

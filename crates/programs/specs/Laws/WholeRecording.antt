@@ -14,10 +14,10 @@ use Rattle.codec.specs.Laws.Encode.{section-length}
 use Rattle.opening.specs.Laws.OpenCode.{open_head}
 use Rattle.recorder.specs.WholeRun.{Box, called_all, packed as packed_whole}
 use Rattle.fidelity.specs.Box.{Opening, opened_by, Asked, first_box, last_box, recorded_from}
-use Rattle.fidelity.specs.Laws.BoxMatches.{sections_accepted}
-use Rattle.fidelity.specs.Laws.FirstBox.{opening_facts, opening-is}
-use Rattle.fidelity.specs.Laws.Packed.{section_wrote}
-use Rattle.fidelity.specs.Laws.Theorem.{acceptance}
+use Rattle.fidelity.proofs.Laws.BoxMatches.{sections_accepted}
+use Rattle.fidelity.proofs.Laws.FirstBox.{opening_facts, opening-is}
+use Rattle.fidelity.proofs.Laws.Packed.{section_wrote}
+use Rattle.fidelity.proofs.Laws.Theorem.{acceptance}
 use Rattle.codec.specs.Laws.Store.{store-front}
 use Rattle.lines.specs.Lines.{Line}
 use Rattle.logs.specs.Packed.{packed}

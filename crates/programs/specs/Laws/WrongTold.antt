@@ -26,11 +26,11 @@ use Rattle.lines.specs.Words.{words_of}
 use Rattle.opening.specs.OpenOf.{OpenOutcome, open_by}
 use Rattle.reader.specs.Range.{AllUnder}
 use Rattle.reader.specs.Laws.Strict.{below_under}
-use Rattle.fidelity.specs.Laws.FirstBox.{follows_last}
+use Rattle.fidelity.proofs.Laws.FirstBox.{follows_last}
 use Rattle.recorder.specs.AccessOf.{is_write, access_number, accepted, refused, access_of}
 use Rattle.recorder.specs.WholeRun.{AccessCall, Box, outcome, called, called_all}
 use Rattle.tracker.specs.declared.State.{State}
-use Rattle.tracker.specs.Laws.After.{next-fields}
+use Rattle.tracker.proofs.Laws.After.{next-fields}
 use Rattle.logs.specs.Laws.Room.{opening_facts}
 use Rattle.script.specs.RecordOf.{stop_of as stopped_by, begun, finished, starts_of, with_opening, open_sized, opening, with_owners, with_sizes, range_of, with_lines, record_of}
 use Rattle.logs.specs.Session.{Session, names_field, call_of, stopped_at, asking, judged, fed, fed_all}

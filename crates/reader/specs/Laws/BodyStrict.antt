@@ -19,11 +19,11 @@ use Rattle.entries.specs.declared.Limits.{Limits}
 use Rattle.entries.specs.Reading.{Reading, refused, read, stop, mapped, and_then}
 use Rattle.entries.specs.Recording.{Entry}
 use Rattle.entries.specs.Bytes.{orderings_bytes, entry_bytes, entry_length, body_bytes}
-use Rattle.entries.specs.Laws.Bytes.{entry-long}
+use Rattle.entries.proofs.Laws.Bytes.{entry-long}
 use Rattle.reader.specs.Range.{PositionIn, OpIn, EntryIn, EntriesIn}
 use Rattle.entries.specs.Entry.{after, ordering_ok, on_record, access_of, entry_from, entry_at, number_of}
 use Rattle.entries.specs.Body.{body_from, body_entries}
-use Rattle.entries.specs.Laws.EntryCase.{access_in}
+use Rattle.entries.proofs.Laws.EntryCase.{access_in}
 
 -- an entry: the bytes begin with it
 abbrev Came : Limits → List ℕ → Reading Entry → Type 0

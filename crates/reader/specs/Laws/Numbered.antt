@@ -10,11 +10,11 @@ use Rattle.codec.specs.Number.{short}
 use Rattle.codec.specs.Laws.Within.{Within, record-within}
 use Rattle.entries.specs.declared.Limits.{Limits}
 use Rattle.entries.specs.Reading.{stop}
-use Rattle.entries.specs.Laws.Reading.{Numbered, numbered-mapped, numbered_then}
+use Rattle.entries.proofs.Laws.Reading.{Numbered, numbered-mapped, numbered_then}
 use Rattle.entries.specs.Body.{body_entries}
 use Rattle.reader.specs.Section.{taken, section_body, on_section, section_at, sections_of}
 use Rattle.reader.specs.Parse.{HeadFields, on_head, head_at, parsed_of, sections_after, parse, sizes_ok, all_below, owners_of}
-use Rattle.entries.specs.Laws.Numbered.{pick_numbered, body_numbered}
+use Rattle.entries.proofs.Laws.Numbered.{pick_numbered, body_numbered}
 
 section-numbered : (m : Limits) (at : ℕ) (b : List ℕ) (r : Record) → Within r b → Numbered (on_section m at b r)
 unfolding on_section section_body taken

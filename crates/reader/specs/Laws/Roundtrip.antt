@@ -24,18 +24,18 @@ use Rattle.reader.specs.declared.Span.{Span}
 use Rattle.entries.specs.Reading.{read, stop}
 use Rattle.entries.specs.Recording.{Entry, Recording}
 use Rattle.entries.specs.Bytes.{orderings_bytes, entry_bytes, entry_length, body_bytes, sections_bytes, bytes_of}
-use Rattle.entries.specs.Laws.Bytes.{entry_length_lem, entry-some}
+use Rattle.entries.proofs.Laws.Bytes.{entry_length_lem, entry-some}
 use Rattle.reader.specs.Range.{PositionIn, OpIn, OrderingsIn, EntryIn, EntriesIn, BodyIn, BodiesIn, AllUnder, HeadIn, InRange}
 use Rattle.entries.specs.Entry.{ordering_ok, on_record, access_of, entry_at, number_of}
-use Rattle.entries.specs.Laws.Entry.{entry-ordering, entry-step}
+use Rattle.entries.proofs.Laws.Entry.{entry-ordering, entry-step}
 use Rattle.entries.specs.Body.{body_entries}
-use Rattle.entries.specs.Laws.Body.{body_end, body_step}
+use Rattle.entries.proofs.Laws.Body.{body_end, body_step}
 use Rattle.reader.specs.Section.{TaskBody, span_of, body_start, taken, section_body, on_section, section_at, sections_of}
 use Rattle.reader.specs.Parse.{owners_of, values_of, all_below, sizes_ok, on_head, head_at, sections_after, parse, values_at}
 use Rattle.codec.specs.Cell.{width_of}
 use Rattle.codec.specs.Laws.Cell.{width_some, width_few, cells_are}
 use Rattle.codec.specs.Laws.Head.{fields_back}
-use Rattle.entries.specs.Laws.EntryCase.{in_access}
+use Rattle.entries.proofs.Laws.EntryCase.{in_access}
 
 -- T, N and the number of fields fit their fields
 pub record Small (m : Limits) : Type 0 where

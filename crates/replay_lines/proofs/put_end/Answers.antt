@@ -1,7 +1,7 @@
 use native.Mathlib.Omega.{arith}
 use Rattle.text.specs.Laws.Appended.{joined}
 use Rattle.replay_lines.specs.Lines.{end_line}
-use Rattle.replay_lines.specs.Laws.Lines.{end-length, stuck_length}
+use Rattle.replay_lines.proofs.Laws.Lines.{end-length, stuck_length}
 use Rattle.replay_lines.proofs.put_end.Goals as goal
 
 pub put_bytes-end-requires : goal.put_bytes-end-requires

@@ -2,7 +2,7 @@ use native.Mathlib.Omega.{arith}
 use mathlib.Core.Path.{sym, ◌∙◌}
 use lib.ListN.{length-append}
 use Rattle.text.specs.Laws.Appended.{joined}
-use Rattle.replay_lines.specs.Laws.Lines.{object-field, object-bare, object-long}
+use Rattle.replay_lines.proofs.Laws.Lines.{object-field, object-bare, object-long}
 use Rattle.replay_lines.proofs.put_object.Goals as goal
 
 pub put_field-end-requires : goal.put_field-end-requires

@@ -1,7 +1,7 @@
 use native.Mathlib.Omega.{arith}
 use Rattle.text.specs.Laws.Appended.{joined}
 use Rattle.replay_lines.specs.Lines.{refusal_of}
-use Rattle.replay_lines.specs.Laws.Lines.{refusal_length}
+use Rattle.replay_lines.proofs.Laws.Lines.{refusal_length}
 use Rattle.replay_lines.proofs.put_refusal.Goals as goal
 
 pub put_bytes-a-requires : goal.put_bytes-a-requires

@@ -1,7 +1,7 @@
 use native.Mathlib.Omega.{arith}
 use Rattle.text.specs.Laws.Appended.{joined}
 use Rattle.replay_lines.specs.Lines.{line_of}
-use Rattle.replay_lines.specs.Laws.Lines.{line-length}
+use Rattle.replay_lines.proofs.Laws.Lines.{line-length}
 use Rattle.replay_lines.proofs.put_step.Goals as goal
 
 pub put_field-a-requires : goal.put_field-a-requires

@@ -6,7 +6,7 @@ use lib.Seq.{take-length}
 use Rattle.text.specs.Appended.{Appended}
 use Rattle.text.specs.Laws.Appended.{joined, nothing}
 use Rattle.replay_lines.specs.Lines.{spaced, memory_of}
-use Rattle.replay_lines.specs.Laws.Lines.{spaced-on, spaced_room, memory-length}
+use Rattle.replay_lines.proofs.Laws.Lines.{spaced-on, spaced_room, memory-length}
 use Rattle.replay_lines.proofs.put_values.Goals as goal
 
 pub put_bytes-end-requires : goal.put_bytes-end-requires

@@ -1,5 +1,5 @@
 -- Laws of `Table`.
-use Rattle.recorder.specs.Laws.Full.{full-run}
+use Rattle.recorder.proofs.Laws.Full.{full-run}
 use Rattle.runs.specs.Laws.Rows.{rows}
 use Rattle.runs.specs.Laws.Calls.{calls}
 use Rattle.runs.specs.Laws.Bytes.{bytes}

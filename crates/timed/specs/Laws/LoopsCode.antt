@@ -10,7 +10,7 @@ use Rattle.replayer.specs.declared.ReadyWord.{ReadyWord}
 use Rattle.replayer.specs.declared.Stepped.{Stepped}
 use Rattle.replayer.specs.ReadyOf.{ready_of}
 use Rattle.replayer.specs.StepOf.{step_of}
-use Rattle.replayer.specs.Laws.StepOf.{undone_stays}
+use Rattle.replayer.proofs.Laws.StepOf.{undone_stays}
 use Rattle.replayer.specs.Word.{lowest_ready}
 use Rattle.timed.specs.Digest.{mixed_in, access_word, step_word}
 use Rattle.timed.specs.ReplayOf.{Replayed, task_next, access_next, step_at, steps_in}

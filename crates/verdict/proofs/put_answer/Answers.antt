@@ -2,13 +2,13 @@ use mathlib.Core.Path.{sym, ap, ◌∙◌}
 use native.Mathlib.Omega.{arith}
 use lib.ListN.{length}
 use lib.Seq.{length-take-le}
-use Rattle.replay_lines.specs.Laws.LinesBound.{refusal_few}
+use Rattle.replay_lines.proofs.Laws.LinesBound.{refusal_few}
 use Rattle.text.specs.Laws.Appended.{nothing}
 use Rattle.verdict.specs.Laws.Answered.{Told, told, Yes, yes_so, No, no_so, away_so}
 use Rattle.verdict.specs.Laws.Lines.{no_few}
 use Rattle.verdict.specs.Laws.TextBound.{text_bound}
 use Rattle.playability.specs.declared.settle.Settled.{Settled}
-use Rattle.playability.specs.Laws.PlayableCode.{settled_sound}
+use Rattle.playability.proofs.Laws.PlayableCode.{settled_sound}
 use Rattle.verdict.proofs.put_answer.Goals as goal
 use Rattle.verdict.proofs.put_answer.Goals.{After-playable_settled-a, Then-a-eq-NO_ORDER, Then-a-eq0}
 

@@ -2,7 +2,7 @@ use native.Mathlib.Omega.{arith}
 use lib.ListN.{length}
 use Rattle.text.specs.Laws.Appended.{nothing, counted}
 use Rattle.verdict.specs.Laws.Reasons.{reasons-long, reasons_bound}
-use Rattle.replay_lines.specs.Laws.Streams.{within-short, within-short_why, within_room}
+use Rattle.replay_lines.proofs.Laws.Streams.{within-short, within-short_why, within_room}
 use Rattle.verdict.specs.Text.{most}
 use Rattle.verdict.specs.Laws.Text.{text-long}
 use Rattle.verdict.specs.Laws.TextBound.{text_bound}

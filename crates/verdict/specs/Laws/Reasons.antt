@@ -5,15 +5,15 @@ use Rattle.std.proofs.Common.{arith, lt-ltb, le-ltb}
 use Rattle.entries.specs.declared.Checked.{Checked}
 use Rattle.entries.specs.Reading.{Reading, refused, read}
 use Rattle.reader.specs.Parse.{Parsed, parse}
-use Rattle.pending.specs.Laws.Sound.{sound_facts}
-use Rattle.replayer.specs.Laws.Along.{along_opened}
+use Rattle.pending.proofs.Laws.Sound.{sound_facts}
+use Rattle.replayer.proofs.Laws.Along.{along_opened}
 use Rattle.replayer.specs.OpenOf.{opened_run}
 use Rattle.replayer.specs.ReadyOf.{has_left}
 use Rattle.scheduler.specs.Schedule.{settled_of}
-use Rattle.scheduler.specs.Laws.Settled.{settled_along}
+use Rattle.scheduler.proofs.Laws.Settled.{settled_along}
 use Rattle.replay_lines.specs.Limits.{longest}
 use Rattle.waits.specs.Waits.{waits_of, waits_most}
-use Rattle.waits.specs.Laws.Waits.{waits_short, waits_nothing}
+use Rattle.waits.proofs.Laws.Waits.{waits_short, waits_nothing}
 use Rattle.verdict.specs.Reasons.{reasons_in, reasons_of}
 
 module _ (b : List ℕ) where

@@ -3,14 +3,14 @@
 use Rattle.std.specs.Prelude.{◌≡◌, true, List, ℕ, ◌<◌}
 use Rattle.entries.specs.Reading.{read}
 use Rattle.reader.specs.Parse.{Parsed, parse}
-use Rattle.replayer.specs.Laws.Along.{along_opened}
+use Rattle.replayer.proofs.Laws.Along.{along_opened}
 use Rattle.replayer.specs.OpenOf.{opened_run}
 use Rattle.replayer.specs.ReadyOf.{has_left}
-use Rattle.scheduler.specs.Laws.Settled.{settled_along, settled_ends}
+use Rattle.scheduler.proofs.Laws.Settled.{settled_along, settled_ends}
 use Rattle.scheduler.specs.Schedule.{settled_of}
-use Rattle.playability.specs.Laws.Theorem.{never_comes}
+use Rattle.playability.proofs.Laws.Theorem.{never_comes}
 use Rattle.playability.specs.Order.{times, Allowed}
-use Rattle.waits.specs.Laws.WaitsEach.{Waiting, waits_each}
+use Rattle.waits.proofs.Laws.WaitsEach.{Waiting, waits_each}
 
 pub record Told (b : List ℕ) (p : Parsed) (t : ℕ) : Type 0 where
   pub waiting : Waiting b (settled_of b (opened_run p)) t

@@ -7,13 +7,13 @@ use Rattle.entries.specs.Reading.{Reading, refused, read}
 use Rattle.reader.specs.Laws.Standing.{parse-stands}
 use Rattle.reader.specs.Parse.{Parsed, parse}
 use Rattle.replayer.specs.OpenOf.{opened_run}
-use Rattle.scheduler.specs.Laws.Opened.{opened-left}
-use Rattle.scheduler.specs.Laws.Schedule.{schedule_short}
+use Rattle.scheduler.proofs.Laws.Opened.{opened-left}
+use Rattle.scheduler.proofs.Laws.Schedule.{schedule_short}
 use Rattle.scheduler.specs.Schedule.{schedule_of, settled_of}
-use Rattle.playability.specs.Laws.Counted.{allowed-below}
-use Rattle.playability.specs.Laws.Held.{held, free, hold_is}
-use Rattle.playability.specs.Laws.Walk.{order-reached}
-use Rattle.replay_lines.specs.Laws.LinesBound.{refusal_few}
+use Rattle.playability.proofs.Laws.Counted.{allowed-below}
+use Rattle.playability.proofs.Laws.Held.{held, free, hold_is}
+use Rattle.playability.proofs.Laws.Walk.{order-reached}
+use Rattle.replay_lines.proofs.Laws.LinesBound.{refusal_few}
 use Rattle.replay_lines.specs.Limits.{longest, most_steps}
 use Rattle.verdict.specs.Laws.Lines.{no_few, yes_few}
 use Rattle.verdict.specs.Laws.Text.{text-long, text-refused, text_no, text_yes}

@@ -1,6 +1,6 @@
 use mathlib.Core.Path.{sym, ◌∙◌}
 use Rattle.text.specs.Laws.Appended.{joined}
-use Rattle.waits.specs.Laws.Differ.{cell_field, cell-bare}
+use Rattle.waits.proofs.Laws.Differ.{cell_field, cell-bare}
 use borrow.Author.Rules.{rules}
 use Rattle.waits.proofs.put_cell.Goals as goal
 

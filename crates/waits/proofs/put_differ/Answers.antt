@@ -4,7 +4,7 @@ use Rattle.codec.specs.Decode.{record_of}
 use Rattle.codec.specs.Number.{in_body}
 use Rattle.text.specs.Laws.Appended.{nothing}
 use Rattle.waits.specs.Differ.{on_differ}
-use Rattle.waits.specs.Laws.Differ.{record-there}
+use Rattle.waits.proofs.Laws.Differ.{record-there}
 use Rattle.waits.proofs.Else.{not-access}
 use borrow.Enum.Refused.{opened}
 use Rattle.waits.proofs.put_differ.Goals as goal

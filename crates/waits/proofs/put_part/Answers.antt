@@ -1,6 +1,6 @@
 use native.Mathlib.Omega.{arith}
 use Rattle.text.specs.Laws.Appended.{joined}
-use Rattle.waits.specs.Laws.Waits.{field-short}
+use Rattle.waits.proofs.Laws.Waits.{field-short}
 use Rattle.waits.proofs.put_part.Goals as goal
 
 pub put_field-requires : goal.put_field-requires

@@ -1,9 +1,9 @@
 use Prim.Native.Nat.{◌+◌, ◌≤◌}
 use native.Mathlib.Omega.{arith}
 use lib.ListN.{length}
-use Rattle.pending.specs.Laws.FirstUnmet.{ahead_turn}
+use Rattle.pending.proofs.Laws.FirstUnmet.{ahead_turn}
 use Rattle.text.specs.Laws.Appended.{nothing}
-use Rattle.waits.specs.Laws.Waits.{wait_done, wait_open, wait_held}
+use Rattle.waits.proofs.Laws.Waits.{wait_done, wait_open, wait_held}
 use Rattle.waits.proofs.put_wait.Goals as goal
 use Rattle.waits.proofs.put_wait.Goals.{Else-k-place}
 

@@ -5,7 +5,7 @@ use lib.ListN.{length}
 use Rattle.text.specs.Appended.{Appended}
 use Rattle.text.specs.Laws.Appended.{joined, nothing}
 use Rattle.waits.specs.Waits.{waits_in}
-use Rattle.waits.specs.Laws.Waits.{waits_none, waits_on, waits_short}
+use Rattle.waits.proofs.Laws.Waits.{waits_none, waits_on, waits_short}
 use Rattle.waits.proofs.put_waits.Given as goal
 
 abbrev pub invariant-loop-t : goal.invariant-loop-t

@@ -4,7 +4,7 @@ use native.Mathlib.Omega.{arith}
 use lib.ListN.{length}
 use borrow.Author.Tests.{not-true, not-false, lt-ltb, le-ltb}
 use Rattle.pending.specs.All.{all_from}
-use Rattle.pending.specs.Laws.All.{all-on, all_off, all_end}
+use Rattle.pending.proofs.Laws.All.{all-on, all_off, all_end}
 use Rattle.follow.specs.Within.{is_there, all_there}
 use Rattle.follow.proofs.within.all_there.Reads as reads
 use Rattle.follow.proofs.within.all_there.Lts as lts

@@ -1,7 +1,7 @@
 use native.Mathlib.Omega.{arith}
 use Rattle.pending.specs.Laws.Next.{refusal_of}
 use Rattle.pending.specs.FirstUnmet.{Ahead, Reached}
-use Rattle.pending.specs.Laws.FirstUnmet.{next-refused, holds-refused, ahead-start, next_open}
+use Rattle.pending.proofs.Laws.FirstUnmet.{next-refused, holds-refused, ahead-start, next_open}
 use Rattle.pending.proofs.Else.{not_found}
 use Rattle.pending.proofs.next.look_at.Goals as goal
 use Rattle.pending.proofs.next.look_at.Goals.{After-first_unmet-scan, In-Access}

@@ -1,5 +1,5 @@
 use mathlib.Core.Path.{refl, sym}
-use Rattle.pending.specs.Laws.Look.{look_next}
+use Rattle.pending.proofs.Laws.Look.{look_next}
 use Rattle.pending.proofs.next.next_of.Goals as goal
 
 pub returns : goal.returns

@@ -6,7 +6,7 @@ use Rattle.codec.specs.Limit.{max_tasks, max_fields}
 use Rattle.codec.specs.Laws.Limit.{within_facts}
 use Rattle.pending.specs.Sound.{task_sound_at, sound_of}
 use Rattle.pending.specs.All.{all_from}
-use Rattle.pending.specs.Laws.All.{all-on, all_off, all_end}
+use Rattle.pending.proofs.Laws.All.{all-on, all_off, all_end}
 use Rattle.pending.proofs.sound.sound.Given as goal
 
 abbrev pub invariant-loop-t : goal.invariant-loop-t

@@ -3,7 +3,7 @@ use Prim.Native.Nat.{◌-◌, ◌≤◌}
 use native.Mathlib.Omega.{arith}
 use borrow.Author.Tests.{lt-ltb, le-ltb}
 use Rattle.playability.specs.Hold.{hold_from, hold_of}
-use Rattle.playability.specs.Laws.Held.{hold_on, hold_found, hold_end}
+use Rattle.playability.proofs.Laws.Held.{hold_on, hold_found, hold_end}
 use Rattle.playability.proofs.hold.hold_of.Given as goal
 
 abbrev pub invariant-loop-t : goal.invariant-loop-t

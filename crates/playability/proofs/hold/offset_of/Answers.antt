@@ -1,4 +1,4 @@
-use Rattle.playability.specs.Laws.Held.{offset-held, offset-none}
+use Rattle.playability.proofs.Laws.Held.{offset-held, offset-none}
 use Rattle.playability.proofs.hold.offset_of.Goals as goal
 
 pub returns-then-k : goal.returns-then-k

@@ -3,11 +3,13 @@ use lib.ListN.{length-map}
 use Rattle.pending.specs.declared.Run.{Run}
 use Rattle.pending.specs.Laws.Moved.{Shaped}
 use Rattle.scheduler.specs.Finish.{left_over}
-use Rattle.scheduler.specs.Laws.Columns.{run_of, columns_back}
-use Rattle.scheduler.specs.Laws.ColumnsCode.{Columned, columned_none}
-use Rattle.scheduler.specs.Laws.Lowest.{SteppedTo, found-next, found_none}
+use Rattle.scheduler.specs.Laws.Columns.{run_of}
+use Rattle.scheduler.proofs.Laws.Columns.{columns_back}
+use Rattle.scheduler.specs.Laws.ColumnsCode.{Columned}
+use Rattle.scheduler.proofs.Laws.ColumnsCode.{columned_none}
+use Rattle.scheduler.proofs.Laws.Lowest.{SteppedTo, found-next, found_none}
 use Rattle.scheduler.proofs.Else.{Found, found-ready, not-ready}
-use Rattle.playability.specs.Laws.SettleCode.{Settling, settling_none, settling_more, settling_fewer, settling_fits, settling_ends}
+use Rattle.playability.proofs.Laws.SettleCode.{Settling, settling_none, settling_more, settling_fewer, settling_fits, settling_ends}
 use Rattle.playability.proofs.settle.play.Given as goal
 
 abbrev pub invariant-loop-places : goal.invariant-loop-places

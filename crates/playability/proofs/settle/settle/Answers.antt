@@ -1,5 +1,5 @@
 use native.Mathlib.Omega.{arith}
-use Rattle.playability.specs.Laws.SettleCode.{settle_refused, settle_plays, settle_read}
+use Rattle.playability.proofs.Laws.SettleCode.{settle_refused, settle_plays, settle_read}
 use Rattle.playability.proofs.settle.settle.Goals as goal
 
 pub returns-then-l-ne0 : goal.returns-then-l-ne0

@@ -4,7 +4,7 @@ use Prim.Native.Nat.{◌-◌, ◌≤◌}
 use lib.ListN.{length}
 use borrow.Author.Tests.{eq-eqb, ne_eqb}
 use Rattle.pending.specs.All.{all_from}
-use Rattle.pending.specs.Laws.All.{all-on, all_off, all_end}
+use Rattle.pending.proofs.Laws.All.{all-on, all_off, all_end}
 use Rattle.playback.specs.Alike.{same_at, same_entries}
 use Rattle.playback.proofs.alike.same_entries.Goals as goal
 

@@ -3,12 +3,13 @@ use Rattle.codec.specs.Laws.Kind.{kind-writes}
 use Rattle.codec.specs.Cell.{op_cell}
 use borrow.Author.Tests.{not-true, not-false}
 use Rattle.scheduler.proofs.Else.{not-ready}
-use Rattle.scheduler.specs.Laws.Lowest.{SteppedTo, found-next, found_none}
+use Rattle.scheduler.proofs.Laws.Lowest.{SteppedTo, found-next, found_none}
 use Rattle.playback.specs.Laws.FinishCode.{Going, going_start, going_on, going_stopped, going_end}
-use Rattle.pending.specs.Laws.Next.{next-long}
+use Rattle.pending.proofs.Laws.Next.{next-long}
 use Rattle.scheduler.specs.Finish.{Play, left_over, finished_of}
-use Rattle.scheduler.specs.Laws.ColumnsCode.{Columned, columned_none}
-use Rattle.scheduler.specs.Laws.Columns.{columns_back, columns_shaped, columns_place, columns_finished}
+use Rattle.scheduler.specs.Laws.ColumnsCode.{Columned}
+use Rattle.scheduler.proofs.Laws.ColumnsCode.{columned_none}
+use Rattle.scheduler.proofs.Laws.Columns.{columns_back, columns_shaped, columns_place, columns_finished}
 use Rattle.scheduler.specs.Laws.Columns.{run_of}
 use Rattle.replayer.specs.StepOf.{record_at}
 use Rattle.pending.specs.declared.Run.{Run}
@@ -19,7 +20,7 @@ use lib.ListN.{length, get_or}
 use Prim.Native.Nat.{◌+◌}
 use native.Mathlib.Omega.{arith}
 use mathlib.Core.Path.{◌≡◌, refl, sym, ap, ◌∙◌}
-use Rattle.pending.specs.Laws.Sound.{sound_facts}
+use Rattle.pending.proofs.Laws.Sound.{sound_facts}
 use Rattle.playback.proofs.finish.finish.Goals as goal
 use Rattle.playback.proofs.finish.finish.Goals.{After-lowest-n, After-record_at-at, After-result_of-then-not-taken, After-taken, At-loop-task, Else-not-taken, In-Ready, Start}
 

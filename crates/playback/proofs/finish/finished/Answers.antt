@@ -2,7 +2,7 @@ use mathlib.Core.Path.{sym, ◌∙◌}
 use lib.ListN.{length-map}
 use borrow.Author.Tests.{not-true, not-false}
 use Rattle.pending.specs.Laws.Moved.{Shaped}
-use Rattle.scheduler.specs.Laws.Columns.{columns_told}
+use Rattle.scheduler.proofs.Laws.Columns.{columns_told}
 use Rattle.playback.specs.Shown.{finished_call}
 use borrow.Author.Rules.{rules}
 use Rattle.playback.proofs.finish.finished.Goals as goal

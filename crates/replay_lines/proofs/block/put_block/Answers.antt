@@ -1,7 +1,7 @@
 use native.Mathlib.Omega.{arith}
 use Rattle.text.specs.Laws.Appended.{joined}
 use Rattle.replay_lines.specs.Block.{block_of}
-use Rattle.replay_lines.specs.Laws.BlockCode.{block_length}
+use Rattle.replay_lines.proofs.Laws.BlockCode.{block_length}
 use Rattle.replay_lines.proofs.block.put_block.Goals as goal
 
 pub put_paused-a-requires : goal.put_paused-a-requires

@@ -1,9 +1,9 @@
 use mathlib.Core.Path.{◌≡◌, sym}
 use lib.ListN.{take}
 use Rattle.pending.specs.Each.{each}
-use Rattle.pending.specs.Laws.Each.{each-length}
+use Rattle.pending.proofs.Laws.Each.{each-length}
 use Rattle.pending.specs.Run.{done_of}
-use Rattle.replay_lines.specs.Laws.BlockCode.{each-front}
+use Rattle.replay_lines.proofs.Laws.BlockCode.{each-front}
 use Rattle.replay_lines.proofs.block.put_done.Goals as goal
 use Rattle.replay_lines.proofs.block.put_done.Goals.{After-dones-1}
 

@@ -1,7 +1,7 @@
 use native.Mathlib.Omega.{arith}
 use Rattle.text.specs.Laws.Appended.{joined}
 use Rattle.replay_lines.specs.Block.{paused_line}
-use Rattle.replay_lines.specs.Laws.BlockCode.{paused_length}
+use Rattle.replay_lines.proofs.Laws.BlockCode.{paused_length}
 use Rattle.replay_lines.proofs.block.put_paused.Goals as goal
 
 pub put_bytes-end-requires : goal.put_bytes-end-requires

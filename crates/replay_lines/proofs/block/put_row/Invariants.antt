@@ -6,9 +6,9 @@ use lib.Seq.{take-length}
 use Rattle.text.specs.Appended.{Appended}
 use Rattle.text.specs.Laws.Appended.{joined, nothing}
 use Rattle.replay_lines.specs.Lines.{spaced}
-use Rattle.replay_lines.specs.Laws.Lines.{spaced-on, spaced_room}
+use Rattle.replay_lines.proofs.Laws.Lines.{spaced-on, spaced_room}
 use Rattle.replay_lines.specs.Block.{row_of}
-use Rattle.replay_lines.specs.Laws.BlockCode.{row-length}
+use Rattle.replay_lines.proofs.Laws.BlockCode.{row-length}
 use Rattle.replay_lines.proofs.block.put_row.Given as goal
 
 abbrev pub invariant-loop-i : goal.invariant-loop-i

@@ -1,7 +1,7 @@
 use native.Mathlib.Omega.{arith}
 use Rattle.text.specs.Laws.Appended.{joined}
 use Rattle.replay_lines.specs.Block.{turned_line}
-use Rattle.replay_lines.specs.Laws.BlockCode.{turned_length}
+use Rattle.replay_lines.proofs.Laws.BlockCode.{turned_length}
 use Rattle.replay_lines.proofs.block.put_turned.Goals as goal
 
 pub put_field-a-requires : goal.put_field-a-requires

@@ -4,7 +4,7 @@ use Prim.Native.Nat.{◌-◌, ◌≤◌}
 use native.Mathlib.Nat.{le_antisymm}
 use Rattle.codec.specs.Limit.{max_tasks}
 use Rattle.replayer.specs.OpenOf.{starts_of}
-use Rattle.replayer.specs.Laws.OpenCode.{starts_none, starts_more, starts_clipped}
+use Rattle.replayer.proofs.Laws.OpenCode.{starts_none, starts_more, starts_clipped}
 use Rattle.replayer.proofs.start.starts.Goals as goal
 
 pub loop-t-init : goal.loop-t-init

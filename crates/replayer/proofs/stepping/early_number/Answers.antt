@@ -1,7 +1,7 @@
 use native.Mathlib.Omega.{arith}
 use mathlib.Core.Path.{sym, ◌∙◌}
 use borrow.Author.Tests.{lt-ltb, le-ltb, eq-eqb, ne_eqb, not-true, not-false}
-use Rattle.pending.specs.Laws.Sound.{sound_facts}
+use Rattle.pending.proofs.Laws.Sound.{sound_facts}
 use Rattle.pending.specs.Run.{task_at, cell_count}
 use Rattle.replayer.specs.StepOf.{early_number}
 use Rattle.replayer.proofs.stepping.early_number.Goals as goal

@@ -9,13 +9,16 @@ use Rattle.replayer.proofs.Else.{closed_next}
 use Rattle.pending.specs.Laws.Look.{OneTask}
 use Rattle.replayer.specs.ReadyOf.{is_ready}
 use Rattle.pending.specs.Run.{limits_of}
-use Rattle.pending.specs.Laws.Sound.{Sound, sound_facts}
+use Rattle.pending.specs.Laws.Sound.{Sound}
+use Rattle.pending.proofs.Laws.Sound.{sound_facts}
 use Rattle.scheduler.specs.Laws.Columns.{task_of, run_of}
-use Rattle.scheduler.specs.Laws.Columns.{columns_task, columns_one}
-use Rattle.scheduler.specs.Laws.ColumnsCode.{Columned, columned_noted, columned_moved, columned_on}
+use Rattle.scheduler.proofs.Laws.Columns.{columns_task, columns_one}
+use Rattle.scheduler.specs.Laws.ColumnsCode.{Columned}
+use Rattle.scheduler.proofs.Laws.ColumnsCode.{columned_noted, columned_moved, columned_on}
 use Rattle.scheduler.specs.Laws.Lowest.{lowest_of, after_of}
-use Rattle.scheduler.specs.Laws.Lowest.{IsNext, ready-left, lowest-next, lowest-none, visit_first, visit_all}
-use Rattle.scheduler.specs.Laws.Visit.{Visited, none_more, own_note}
+use Rattle.scheduler.proofs.Laws.Lowest.{IsNext, ready-left, lowest-next, lowest-none, visit_first, visit_all}
+use Rattle.scheduler.specs.Laws.Visit.{Visited}
+use Rattle.scheduler.proofs.Laws.Visit.{none_more, own_note}
 use Rattle.scheduler.proofs.lowest.lowest.Given as goal
 
 abbrev pub invariant-loop-t : goal.invariant-loop-t

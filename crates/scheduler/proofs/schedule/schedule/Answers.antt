@@ -7,10 +7,11 @@ use borrow.Author.Tests.{not-true, not-false}
 use Rattle.pending.specs.declared.Run.{Run}
 use Rattle.pending.specs.Laws.Moved.{Shaped}
 use Rattle.scheduler.specs.Laws.Columns.{run_of}
-use Rattle.scheduler.specs.Laws.Columns.{columns_back}
-use Rattle.scheduler.specs.Laws.ColumnsCode.{Columned, columned_none}
-use Rattle.scheduler.specs.Laws.Lowest.{SteppedTo, found-next, found_none}
-use Rattle.scheduler.specs.Laws.ScheduleCode.{Writing, wrote_none, writing_none, writing_more, writing_stops, writing_full}
+use Rattle.scheduler.proofs.Laws.Columns.{columns_back}
+use Rattle.scheduler.specs.Laws.ColumnsCode.{Columned}
+use Rattle.scheduler.proofs.Laws.ColumnsCode.{columned_none}
+use Rattle.scheduler.proofs.Laws.Lowest.{SteppedTo, found-next, found_none}
+use Rattle.scheduler.proofs.Laws.ScheduleCode.{Writing, wrote_none, writing_none, writing_more, writing_stops, writing_full}
 use Rattle.scheduler.proofs.Else.{not-ready}
 use Rattle.scheduler.proofs.schedule.schedule.Goals as goal
 use Rattle.scheduler.proofs.schedule.schedule.Goals.{After-lowest-n, At-loop-steps, In-Ready, Start}

@@ -7,10 +7,10 @@ use borrow.Author.Tests.{not-true, not-false}
 use lib.ListN.{get_or}
 use Rattle.codec.specs.Limit.{max_accesses}
 use Rattle.tracker.specs.Range.{all_below}
-use Rattle.tracker.specs.Laws.Range.{all_none, all_more, all_fails}
+use Rattle.tracker.proofs.Laws.Range.{all_none, all_more, all_fails}
 use Rattle.tracker.specs.Sum.{sum_of}
-use Rattle.tracker.specs.Laws.Sum.{sum-none, sum_more}
-use Rattle.tracker.specs.Laws.Facts.{task_facts}
+use Rattle.tracker.proofs.Laws.Sum.{sum-none, sum_more}
+use Rattle.tracker.proofs.Laws.Facts.{task_facts}
 use Rattle.tracker.specs.Sound.{task_sound_at, tasks_sound}
 use Rattle.transitions.proofs.sound.tasks_sound.Goals as goal
 use Rattle.transitions.proofs.sound.tasks_sound.Goals.{Else-not-task_sound}

@@ -1,0 +1,24 @@
+-- Laws of the definitions of specs/. All of them are proved; a reader does not have to trust anything here.
+pub mod BoxMatches
+pub mod BoxReference
+pub mod Counted
+pub mod Fence
+pub mod Filed
+pub mod FirstBox
+pub mod Follows
+pub mod LeftOver
+pub mod LowestFirst
+pub mod Matches
+pub mod OneCall
+pub mod OneField
+pub mod OnePlace
+pub mod Packed
+pub mod Paused
+pub mod Playable
+pub mod Replayed
+pub mod RunA
+pub mod Sim
+pub mod SimRun
+pub mod SimStart
+pub mod SimStep
+pub mod Theorem

@@ -1,9 +1,0 @@
--- The laws of this crate's definitions. All of them are proved; a reader does not have to trust anything here.
-pub mod Answered
-pub mod Reasons
-pub mod ReasonsEach
-pub mod Stopped
-pub mod Text
-pub mod TextBound
-pub mod Told
-pub mod ToldBound

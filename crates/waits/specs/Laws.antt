@@ -1,4 +1,0 @@
--- The laws of this crate's definitions. All of them are proved; a reader does not have to trust anything here.
-pub mod Differ
-pub mod Waits
-pub mod WaitsEach
