@@ -8,3 +8,4 @@ pub mod Part
 pub mod Reading
 pub mod Recording
 pub mod Records
+pub mod Laws

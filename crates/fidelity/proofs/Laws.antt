@@ -8,7 +8,6 @@ pub mod FirstBox
 pub mod Follows
 pub mod LeftOver
 pub mod LowestFirst
-pub mod Matches
 pub mod OneCall
 pub mod OneField
 pub mod OnePlace

@@ -8,3 +8,4 @@ pub mod Paused
 pub mod Playable
 pub mod RunA
 pub mod Statement
+pub mod Laws

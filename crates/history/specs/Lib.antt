@@ -7,3 +7,4 @@ pub mod Memory
 pub mod Ready
 pub mod Replay
 pub mod Sound
+pub mod Laws

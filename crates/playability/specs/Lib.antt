@@ -3,3 +3,4 @@ pub mod Order
 pub mod PlayableOf
 pub mod Settle
 pub mod Statement
+pub mod Laws

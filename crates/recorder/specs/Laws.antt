@@ -1,2 +1,3 @@
 -- Definitions that the contracts of functions speak of, beside those of the paper's words.
 pub mod AccessCode
+pub mod Full

@@ -3,4 +3,6 @@ pub mod Columns
 pub mod ColumnsCode
 pub mod Finish
 pub mod Lowest
+pub mod Schedule
+pub mod ScheduleCode
 pub mod Visit

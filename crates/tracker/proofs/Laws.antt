@@ -1,13 +1,10 @@
 -- Laws of the definitions of specs/. All of them are proved; a reader does not have to trust anything here.
-pub mod Accesses
 pub mod After
-pub mod Covered
 pub mod Covers
 pub mod EachRow
 pub mod Effects
 pub mod Facts
 pub mod Implied
-pub mod Invariant
 pub mod Kept
 pub mod Moves
 pub mod Named
@@ -17,7 +14,6 @@ pub mod Plan
 pub mod Range
 pub mod Scan
 pub mod Seen
-pub mod State
 pub mod Sum
 pub mod Tracks
 pub mod View

@@ -1,4 +1,20 @@
 -- Definitions that the contracts of functions speak of, beside those of the paper's words.
+pub mod Accesses
 pub mod Counters
+pub mod Covered
+pub mod Covers
+pub mod EachRow
+pub mod Effects
+pub mod Facts
+pub mod Invariant
+pub mod Kept
+pub mod Moves
+pub mod Named
+pub mod Opened
 pub mod Plan
 pub mod Scan
+pub mod Seen
+pub mod State
+pub mod Tracks
+pub mod View
+pub mod Written

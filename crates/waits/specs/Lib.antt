@@ -1,2 +1,3 @@
+pub mod Laws
 pub mod Differ
 pub mod Waits

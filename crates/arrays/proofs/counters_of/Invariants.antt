@@ -3,7 +3,8 @@ use mathlib.Core.Path.{refl}
 use Prim.Native.Nat.{◌+◌, ◌-◌}
 use lib.ListN.{get_or}
 use Rattle.codec.specs.Limit.{max_tasks}
-use Rattle.pending.proofs.Laws.Each.{Filled, filled_none, filled_more, filled-all}
+use Rattle.pending.specs.Laws.Each.{Filled}
+use Rattle.pending.proofs.Laws.Each.{filled_none, filled_more, filled-all}
 use Rattle.arrays.proofs.counters_of.Given as goal
 
 abbrev pub invariant-loop-t : goal.invariant-loop-t

@@ -2,7 +2,8 @@ use mathlib.Core.Path.{refl}
 use Prim.Native.Nat.{◌-◌}
 use native.Mathlib.Omega.{arith}
 use Rattle.codec.specs.Limit.{max_cells}
-use Rattle.pending.proofs.Laws.Each.{Filled, filled_none, filled_more, filled-all}
+use Rattle.pending.specs.Laws.Each.{Filled}
+use Rattle.pending.proofs.Laws.Each.{filled_none, filled_more, filled-all}
 use Rattle.arrays.specs.Halves.{record_in}
 use Rattle.arrays.proofs.records_of.Given as goal
 

@@ -1,5 +1,6 @@
 use Rattle.arrays.specs.Places.{task_in}
-use Rattle.pending.proofs.Laws.Each.{Filled, filled_none, filled_more, filled-all}
+use Rattle.pending.specs.Laws.Each.{Filled}
+use Rattle.pending.proofs.Laws.Each.{filled_none, filled_more, filled-all}
 use Rattle.codec.specs.Limit.{max_tasks}
 use native.Mathlib.Omega.{arith}
 use Prim.Native.Nat.{◌-◌}

@@ -8,7 +8,7 @@ use Rattle.tracker.specs.declared.Locality.{Locality}
 use Rattle.tracker.specs.declared.Locality.TheVariants.{WriteExclusive, ReadExclusive, ReadShared}
 use Rattle.tracker.specs.declared.State.{State}
 use Rattle.tracker.specs.State.{holder_of, share_of, owned}
-use Rattle.tracker.proofs.Laws.State.{Shaped}
+use Rattle.tracker.specs.Laws.State.{Shaped}
 use Rattle.pending.specs.Each.{each}
 use Rattle.pending.proofs.Laws.Each.{each-length, each_at, each_of}
 use Rattle.arrays.specs.Halves.{record_of, record_in, entries_in, state_in, case_of, locality_at, halves_of, words_of}

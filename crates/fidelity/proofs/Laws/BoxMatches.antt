@@ -15,14 +15,13 @@ use Rattle.history.specs.Memory.{reference}
 use Rattle.tracker.proofs.Laws.Tracks.{tracks_sound, tracks_tasks, tracks_memory}
 use Rattle.sections.specs.SectionOf.{section_of}
 use Rattle.fidelity.specs.Box.{Opening, opened_by, Asked, last_box, recorded, recording_of, recording_by, cells_by}
-use Rattle.fidelity.proofs.Laws.FirstBox.{start_of, opening_facts, owners_under, opening-is, follows_last}
-use Rattle.fidelity.proofs.Laws.Follows.{Follows}
-use Rattle.fidelity.proofs.Laws.Matches.{Matches}
+use Rattle.fidelity.specs.Laws.FirstBox.{start_of}
+use Rattle.fidelity.proofs.Laws.FirstBox.{opening_facts, owners_under, opening-is, follows_last}
+use Rattle.fidelity.specs.Laws.Follows.{Follows}
+use Rattle.fidelity.specs.Laws.Matches.{Matches}
 use Rattle.fidelity.proofs.Laws.Packed.{bodies-length, bodies-at, section-accepted, bodies_in, packed-is}
 use Rattle.codec.specs.Cell.{cells_of}
-
-abbrev pub parsed_by : Opening → List Asked → Parsed
-parsed_by o asked = record { recording = recording_by o asked; spans = spans_of (recording_by o asked) }
+use Rattle.fidelity.specs.Laws.BoxMatches.{parsed_by}
 
 module _ (o : Opening) (accepted : (opened_by o).answer.number ≡ 0) where
   pub owner_each : length o.owners ≡ o.objects

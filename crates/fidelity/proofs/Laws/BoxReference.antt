@@ -5,7 +5,8 @@ use Rattle.recorder.specs.AccessOf.{is_write, value_after, memory_after}
 use Rattle.recorder.specs.WholeRun.{AccessCall, Call, Box, outcome, called, called_all}
 use Rattle.fidelity.specs.Box.{Opening, opened_by, Asked, calls_of, first_box, last_box, fed_by, fed_from, fed, given, kept, reference_memory, reference_values, answers_from, cell_by}
 use Rattle.fidelity.proofs.Laws.FirstBox.{opening-is}
-use Rattle.fidelity.proofs.Laws.OneCall.{taken_turn, turned_away, turn}
+use Rattle.fidelity.specs.Laws.OneCall.{taken_turn, turned_away}
+use Rattle.fidelity.proofs.Laws.OneCall.{turn}
 
 value_same : (write : Bool) (cell value : ℕ) (memory : List ℕ) → value_after write cell value memory ≡ cond write value (get_or memory cell 0)
 value_same true cell value memory = refl

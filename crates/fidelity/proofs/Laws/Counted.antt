@@ -13,7 +13,8 @@ use Rattle.fidelity.specs.Counted.{ordering_count, summed_up, written, Counted}
 use Rattle.fidelity.specs.Statement.{Accepted}
 use Rattle.fidelity.specs.Filed.{filed_of, bodies_from}
 use Rattle.fidelity.proofs.Laws.FirstBox.{follows_last}
-use Rattle.fidelity.proofs.Laws.BoxMatches.{parsed_by, recording-parsed}
+use Rattle.fidelity.specs.Laws.BoxMatches.{parsed_by}
+use Rattle.fidelity.proofs.Laws.BoxMatches.{recording-parsed}
 use Rattle.entries.specs.Records.{body_records, sections_records, records_in}
 
 -- an access at the end of a body

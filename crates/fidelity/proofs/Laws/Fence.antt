@@ -6,9 +6,10 @@ use Rattle.std.proofs.lemmas.Bool.{eqb-false}
 use Rattle.codec.specs.Laws.Decide.{never, both_pass}
 use Rattle.tracker.specs.State.{locality_of, cell_count}
 use Rattle.tracker.specs.Row.{row_at, number_of}
-use Rattle.tracker.proofs.Laws.State.{Shaped}
+use Rattle.tracker.specs.Laws.State.{Shaped}
 use Rattle.tracker.proofs.Laws.After.{next_shaped, next-fields}
-use Rattle.tracker.proofs.Laws.Seen.{Sees, sees_three, sees_stays, newest_six, newest_sees, fence_leaves}
+use Rattle.tracker.specs.Laws.Seen.{Sees, newest_six}
+use Rattle.tracker.proofs.Laws.Seen.{sees_three, sees_stays, newest_sees, fence_leaves}
 use Rattle.tracker.proofs.Laws.Tracks.{tracks_invariant}
 use Rattle.tracker.specs.declared.Locality.{Locality}
 use Rattle.tracker.specs.declared.Locality.TheVariants.{WriteExclusive, ReadExclusive, ReadShared}
@@ -20,7 +21,8 @@ use Rattle.recorder.specs.WholeRun.{AccessCall, Call, Box, outcome, called, call
 use Rattle.fidelity.specs.Box.{Opening, opened_by, Asked, last_box, accepts, cell_by}
 use Rattle.fidelity.specs.Fence.{writes_to, unwritten, is_shared, read_by, FenceLasts}
 use Rattle.fidelity.proofs.Laws.FirstBox.{follows_last}
-use Rattle.fidelity.proofs.Laws.OneCall.{taken_turn, turned_away, turn}
+use Rattle.fidelity.specs.Laws.OneCall.{taken_turn, turned_away}
+use Rattle.fidelity.proofs.Laws.OneCall.{turn}
 use Rattle.codec.specs.Laws.Cell.{cell_below}
 
 -- an accepted access answers its row, a refused one 0

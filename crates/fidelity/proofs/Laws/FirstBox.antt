@@ -10,24 +10,18 @@ use Rattle.entries.specs.Bytes.{body_bytes}
 use Rattle.reader.specs.Range.{AllUnder}
 use Rattle.history.proofs.Laws.History.{at-nil}
 use Rattle.tracker.specs.Opened.{opened_state}
-use Rattle.tracker.proofs.Laws.Opened.{Opens, opened-fresh}
-use Rattle.tracker.proofs.Laws.Tracks.{tracks_opened}
+use Rattle.tracker.specs.Laws.Opened.{Opens}
+use Rattle.tracker.proofs.Laws.Opened.{opened-fresh}
+use Rattle.tracker.specs.Laws.Tracks.{tracks_opened}
 use Rattle.opening.specs.OpenOf.{open_number, opened, open_by}
 use Rattle.opening.specs.Laws.OpenCode.{OpenFacts, open_facts, open_accepted}
 use Rattle.fidelity.specs.Box.{Opening, opened_by, Asked, first_box, last_box, recorded, opening}
 use Rattle.fidelity.specs.Filed.{filed_of}
 use Rattle.reader.specs.Laws.Range.{under_at}
 use Rattle.reader.specs.Laws.Strict.{below_under}
-use Rattle.fidelity.proofs.Laws.Follows.{Follows, follows_all}
-
--- the starting values by cell
-abbrev pub start_of : Opening → ℕ → ℕ
-start_of o c = get_or o.starts c 0
-
--- both openings are one, which takes a least number of fields
-abbrev least_by : ℕ → ℕ
-least_by zero = 0
-least_by (suc n) = 1
+use Rattle.fidelity.specs.Laws.Follows.{Follows}
+use Rattle.fidelity.proofs.Laws.Follows.{follows_all}
+use Rattle.fidelity.specs.Laws.FirstBox.{least_by, start_of}
 
 opening_by : (f : ℕ) (o : Opening) → opening f o ≡ open_by (least_by f) f o.tasks o.objects o.owners o.starts o.memory o.out
 opening_by zero o = refl

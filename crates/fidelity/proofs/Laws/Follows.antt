@@ -12,20 +12,19 @@ use Rattle.reader.specs.Range.{EntryIn, EntriesIn}
 use Rattle.history.specs.Entry.{Entry}
 use Rattle.history.specs.History.{History, count, At, here, there}
 use Rattle.history.proofs.Laws.History.{count-own, count-other}
-use Rattle.tracker.proofs.Laws.Accesses.{tracked_entry}
+use Rattle.tracker.specs.Laws.Accesses.{tracked_entry}
 use Rattle.tracker.proofs.Laws.After.{next-tasks, next-objects, next-fields}
-use Rattle.tracker.proofs.Laws.Tracks.{Tracks, tracks_more}
+use Rattle.tracker.specs.Laws.Tracks.{Tracks, tracks_more}
 use Rattle.recorder.specs.AccessOf.{is_write, value_after, memory_after}
 use Rattle.recorder.proofs.Laws.Accepted.{Takes, written-length, entry_in_lem, entry_bound}
 use Rattle.recorder.specs.WholeRun.{AccessCall, Call, Box, called, left_by, called_all}
 use Rattle.fidelity.specs.Box.{Fits, Asked, calls_of, accepts, recorded_entry, added_by, recorded_from, cell_by}
 use Rattle.fidelity.specs.Filed.{filed_of, filed}
-use Rattle.fidelity.proofs.Laws.Matches.{Recordable}
-use Rattle.fidelity.proofs.Laws.OneCall.{given_by, file_entry, history_entry, box_after, taken_turn, turned_away, turn, entry-filed, memory-after, memory-length}
+use Rattle.fidelity.specs.Laws.Matches.{Recordable}
+use Rattle.fidelity.specs.Laws.OneCall.{given_by, file_entry, history_entry, box_after, taken_turn, turned_away}
+use Rattle.fidelity.proofs.Laws.OneCall.{turn, entry-filed, memory-after, memory-length}
 use Rattle.codec.specs.Cell.{cells_of}
-
-abbrev pub limits : ℕ → ℕ → ℕ → ℕ → Limits
-limits tasks objects fields t = record { tasks = tasks; objects = objects; fields = fields; own = t }
+use Rattle.fidelity.specs.Laws.Follows.{Follows, limits}
 
 -- a body with one more entry at its end
 body_more : (es : List FileEntry) (e : FileEntry) → body_bytes (es ++ (e ∷ [])) ≡ body_bytes es ++ entry_bytes e
@@ -36,19 +35,6 @@ body_more (x ∷ es) e = rw (body_more es e, append_assoc)
 entries-more : (m : Limits) (es : List FileEntry) (e : FileEntry) → EntriesIn m es → EntryIn m e → EntriesIn m (es ++ (e ∷ []))
 entries-more m [] e i j = (j, tt)
 entries-more m (x ∷ es) e i j = (i.0, entries-more m es e i.1 j)
-
--- the box after some calls, and the history of the accepted accesses
-pub record Follows (start : ℕ → ℕ) (tasks objects fields : ℕ) (b : Box) (h : History) : Type 0 where
-  pub tracks : Tracks start b.state (λ c. get_or b.memory c 0) h
-  pub tasks_are : b.state.tasks ≡ tasks
-  pub objects_are : b.state.objects ≡ objects
-  pub fields_are : b.state.fields ≡ fields
-  pub memory_each : length b.memory ≡ cells_of fields objects
-  pub values : (c : ℕ) → get_or b.memory c 0 < 4294967296
-  pub logs : (t : ℕ) → b.logs t ≡ body_bytes (filed_of fields t h)
-  pub small : (t : ℕ) → length (b.logs t) ≤ 140 * count t h
-  pub entries : (t : ℕ) → EntriesIn (limits tasks objects fields t) (filed_of fields t h)
-  pub recordable : {e : Entry} {g : History} → At e g h → Recordable e.act
 
 module _ {start : ℕ → ℕ} {tasks objects fields : ℕ} {b : Box} {h : History} (f : Follows start tasks objects fields b h) (c : AccessCall) where
   module _ (k : Takes b.state c.task c.object c.field c.sort c.value b.memory c.out) where

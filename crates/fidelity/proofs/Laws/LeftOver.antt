@@ -12,11 +12,7 @@ use Rattle.history.proofs.Laws.History.{count-own, count-other, at_lt}
 use Rattle.history.specs.Replay.{next}
 use Rattle.history.proofs.Laws.Ready.{next-access}
 use Rattle.fidelity.specs.Filed.{filed, filed_of}
-
--- task t's accesses after the first n
-unfoldable pub left_of : ℕ → ℕ → ℕ → History → List FileEntry
-left_of fields t n [] = []
-left_of fields t n (e ∷ g) = cond (eqb e.task t) (cond (leb n (count t g)) (left_of fields t n g ++ (filed fields e ∷ [])) []) (left_of fields t n g)
+use Rattle.fidelity.specs.Laws.LeftOver.{left_of}
 
 -- at the start all of them
 pub left-all : (fields t : ℕ) (h : History) → left_of fields t 0 h ≡ filed_of fields t h

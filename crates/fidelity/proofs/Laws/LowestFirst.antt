@@ -11,9 +11,10 @@ use Rattle.replayer.specs.OpenOf.{opened_run, open_of}
 use Rattle.replayer.specs.ReadyOf.{ready_of}
 use Rattle.replayer.specs.StepOf.{step_of}
 use Rattle.scheduler.specs.Finish.{Play, word_at, task_next, takes_step, stepped_by, finish_of, finished_of}
-use Rattle.scheduler.specs.Laws.Finish.{Playing}
-use Rattle.scheduler.proofs.Laws.Finish.{none-ready, stopped, finish_ends}
-use Rattle.scheduler.proofs.Laws.Schedule.{AllTaken, schedule_finish, finish_steps, schedule_taken, schedule_settled}
+use Rattle.scheduler.specs.Laws.Finish.{Playing, none-ready, stopped}
+use Rattle.scheduler.proofs.Laws.Finish.{finish_ends}
+use Rattle.scheduler.specs.Laws.Schedule.{AllTaken}
+use Rattle.scheduler.proofs.Laws.Schedule.{schedule_finish, finish_steps, schedule_taken, schedule_settled}
 use Rattle.scheduler.specs.Schedule.{schedule_of, settled_of, played_by}
 use Rattle.fidelity.specs.Bench.{Bench, bench_of, answer_of, stepped_all, takes, tally}
 use Rattle.fidelity.specs.Box.{Opening, Asked, recorded, recording_of, recording_by, cells_by}

@@ -11,7 +11,7 @@ use Rattle.entries.specs.Recording.{Entry as FileEntry}
 use Rattle.entries.specs.Bytes.{entry_bytes}
 use Rattle.history.specs.Entry.{Entry}
 use Rattle.tracker.specs.declared.State.{State}
-use Rattle.tracker.proofs.Laws.Accesses.{tracked_entry, memory_after as tracked_memory}
+use Rattle.tracker.specs.Laws.Accesses.{tracked_entry, memory_after as tracked_memory}
 use Rattle.tracker.specs.Next.{state_after}
 use Rattle.tracker.specs.Orderings.{written_of}
 use Rattle.recorder.specs.AccessOf.{is_write, accepted, refused, value_after, memory_after, written_entry, written_size}
@@ -21,30 +21,7 @@ use Rattle.fidelity.specs.Box.{accepts, act_of, recorded_entry, cell_by}
 use Rattle.fidelity.specs.Filed.{filed}
 use Rattle.codec.specs.Cell.{width_of, object_at, field_at}
 use Rattle.codec.specs.Laws.Cell.{object_back, field_back}
-
--- the value that an accepted call answers, what it writes, and its entry
-abbrev pub given_by : Box → AccessCall → ℕ
-given_by b c = value_after (is_write c.sort) (cell_by b c) c.value b.memory
-
-abbrev pub file_entry : Box → AccessCall → FileEntry
-file_entry b c = written_entry b.state c.task c.object c.field (is_write c.sort) (given_by b c)
-
-abbrev pub history_entry : Box → AccessCall → Entry
-history_entry b c = tracked_entry b.state c.task (cell_by b c) (is_write c.sort) c.value (get_or b.memory (cell_by b c) 0)
-
--- the box after an accepted call
-abbrev pub box_after : Box → AccessCall → Box
-box_after b c = record {
-  state = state_after b.state c.task (cell_by b c) (is_write c.sort);
-  memory = memory_after (is_write c.sort) (cell_by b c) c.value b.memory;
-  logs = λ t. cond (eqb c.task t) (b.logs t ++ entry_bytes (file_entry b c)) (b.logs t);
-}
-
-pub data Turn (b : Box) (c : AccessCall) : Type 0 where
-  taken_turn : Takes b.state c.task c.object c.field c.sort c.value b.memory c.out → accepts b c ≡ true
-      → (outcome b c).answer.value ≡ given_by b c
-      → recorded_entry b c ≡ history_entry b c → called b c ≡ box_after b c → Turn b c
-  turned_away : accepts b c ≡ false → (outcome b c).answer.value ≡ 0 → called b c ≡ b → Turn b c
+use Rattle.fidelity.specs.Laws.OneCall.{Turn, file_entry, given_by, history_entry, taken_turn, turned_away}
 
 act-same : (s : State) (task cell : ℕ) (write : Bool) (value : ℕ) (memory : List ℕ)
     → ◌≡◌ {A = Entry} (record { task = task; act = act_of write cell (value_after write cell value memory); orderings = written_of s task cell write })

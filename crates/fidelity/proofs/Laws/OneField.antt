@@ -25,20 +25,7 @@ use Rattle.fidelity.specs.Box.{Opening, opened_by, Asked, calls_of, first_box, l
 use Rattle.fidelity.specs.OneField.{OneField, SameAccess, SameCall, SameCalls, HasRoom, Enough, Told, told_by, told_from, SameRun}
 use Rattle.fidelity.proofs.Laws.FirstBox.{opening-is}
 use Rattle.opening.specs.OpenOf.{OpenOutcome}
-
--- a state with another number of fields
-abbrev under : ℕ → State → State
-under f t = record {
-  tasks = t.tasks;
-  objects = t.objects;
-  fields = f;
-  cells = t.cells;
-  done = t.done;
-  seen = t.seen;
-  took = t.took;
-  shares = t.shares;
-  last = t.last;
-}
+use Rattle.fidelity.specs.Laws.OneField.{Beside, Goes, Pair, stays, takes, under}
 
 -- the table does not look at it
 module _ (f : ℕ) (t : State) (task cell : ℕ) where
@@ -81,13 +68,6 @@ checked-same : (t : State) (task object field sort memory : ℕ) → checked (un
 unfolding checked sound_of cells_of width_of
 checked-same t task object field sort memory = refl
 
--- an access that does not lack output: refused by a check, or accepted
-data Goes (s : State) (task object field sort value : ℕ) (memory out : List ℕ) : Type 0 where
-  stays : (n : ℕ) → n ≡ checked s task object field sort (length memory) 0 → (n ≡ 0 → ⊥)
-      → access_of s task object field sort value memory out ≡ refused n s memory out → Goes s task object field sort value memory out
-  takes : checked s task object field sort (length memory) 0 ≡ 0
-      → access_of s task object field sort value memory out ≡ accepted s task object field (is_write sort) value memory out → Goes s task object field sort value memory out
-
 goes : (s : State) (task object field sort value : ℕ) (memory out : List ℕ) → ((access_of s task object field sort value memory out).answer.number ≡ no_room → ⊥)
     → Goes s task object field sort value memory out
 unfolding refused
@@ -100,17 +80,6 @@ goes s task object field sort value memory out room =
         | no h ↦ absurd (room (rw (access-short s task object field sort value memory out n refl z (omega arith))))
       ]
     ]
-
--- one access on both states
-record Pair (x y : AccessOutcome) : Type 0 where
-  pub number : x.answer.number ≡ y.answer.number
-  pub value : x.answer.value ≡ y.answer.value
-  pub row : x.answer.row ≡ y.answer.row
-  pub class : x.answer.class ≡ y.answer.class
-  pub base : State
-  pub old : x.answer.state ≡ under 0 base
-  pub new : y.answer.state ≡ under 1 base
-  pub memory : y.memory ≡ x.memory
 
 module _ (t : State) (task object field sort value : ℕ) (memory : List ℕ) where
   stays_both : (n : ℕ) (out other : List ℕ) → Pair (refused n (under 0 t) memory out) (refused n (under 1 t) memory other)
@@ -146,13 +115,6 @@ module _ (t : State) (task object field sort value : ℕ) (memory : List ℕ) wh
           | takes f v ↦ rw (w, v) (takes_both (is_write sort) out other)
         ]
       ]
-
--- two boxes that differ in the number of fields alone; the bytes of their logs differ
-record Beside (b c : Box) : Type 0 where
-  pub base : State
-  pub old : b.state ≡ under 0 base
-  pub new : c.state ≡ under 1 base
-  pub memory : c.memory ≡ b.memory
 
 module _ (b c : Box) (w : Beside b c) (x y : AccessCall) (s : SameAccess x y) where
   -- the second call on the second box, by the first call's arguments

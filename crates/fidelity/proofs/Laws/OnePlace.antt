@@ -6,7 +6,7 @@ use Rattle.pending.specs.Run.{done_of}
 use Rattle.reader.specs.Parse.{Parsed, parse}
 use Rattle.replayer.specs.OpenOf.{opened_run}
 use Rattle.scheduler.specs.Finish.{Play}
-use Rattle.scheduler.proofs.Laws.Schedule.{AllTaken}
+use Rattle.scheduler.specs.Laws.Schedule.{AllTaken}
 use Rattle.scheduler.specs.Schedule.{played_by}
 use Rattle.fidelity.specs.Bench.{Bench}
 use Rattle.fidelity.specs.Box.{Opening, Asked, recording_of, recording_by, cells_by}

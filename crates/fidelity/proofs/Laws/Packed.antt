@@ -19,7 +19,8 @@ use Rattle.entries.specs.Reading.{stop}
 use Rattle.reader.specs.Laws.Roundtrip.{body_back}
 use Rattle.history.specs.History.{History}
 use Rattle.tracker.specs.declared.State.{State}
-use Rattle.tracker.proofs.Laws.Facts.{Sound, sound_test}
+use Rattle.tracker.specs.Laws.Facts.{Sound}
+use Rattle.tracker.proofs.Laws.Facts.{sound_test}
 use Rattle.tracker.specs.State.{done_of}
 use Rattle.tracker.proofs.Laws.Tracks.{tracks_done, tracks_invariant}
 use Rattle.sections.specs.SectionOf.{limits_of, log_checked, section_checked, section_bytes, section_of}
@@ -27,7 +28,7 @@ use Rattle.sections.specs.Laws.SectionCode.{section_facts}
 use Rattle.recorder.specs.WholeRun.{Box, packed}
 use Rattle.fidelity.specs.Filed.{filed_of, bodies_from}
 use Rattle.fidelity.proofs.Laws.Filed.{filed-count}
-use Rattle.fidelity.proofs.Laws.Follows.{limits, Follows}
+use Rattle.fidelity.specs.Laws.Follows.{limits, Follows}
 
 pub bodies-length : (fields : ℕ) (h : History) (t k : ℕ) → length (bodies_from fields h t k) ≡ k
 unfolding bodies_from

@@ -19,10 +19,11 @@ use Rattle.replayer.specs.OpenOf.{open_of, opened_run}
 use Rattle.replayer.specs.ReadyOf.{ready_of}
 use Rattle.fidelity.specs.Bench.{Bench, bench_of, answer_of, stepped, stepped_all, takes, tally, tally_of, AllTaken}
 use Rattle.fidelity.specs.Box.{Opening, Asked, recorded, recording_of}
-use Rattle.fidelity.proofs.Laws.BoxMatches.{parsed_by, box_matches}
-use Rattle.fidelity.proofs.Laws.FirstBox.{start_of}
-use Rattle.fidelity.proofs.Laws.LeftOver.{left_of}
-use Rattle.fidelity.proofs.Laws.Matches.{Matches}
+use Rattle.fidelity.specs.Laws.BoxMatches.{parsed_by}
+use Rattle.fidelity.proofs.Laws.BoxMatches.{box_matches}
+use Rattle.fidelity.specs.Laws.FirstBox.{start_of}
+use Rattle.fidelity.specs.Laws.LeftOver.{left_of}
+use Rattle.fidelity.specs.Laws.Matches.{Matches}
 use Rattle.fidelity.proofs.Laws.Replayed.{sim, framed, done-same, counts_same, kind-recorded, answers_recorded}
 use Rattle.fidelity.specs.Paused.{Paused, AtOnePlace, Same}
 use Rattle.fidelity.specs.Statement.{Accepted, Shows}

@@ -17,7 +17,8 @@ use Rattle.playability.proofs.Laws.Counted.{plays-length}
 use Rattle.playability.proofs.Laws.Theorem.{free_plays, playable_answers}
 use Rattle.playability.specs.Order.{Plays}
 use Rattle.fidelity.specs.Box.{Opening, Asked, recorded, recording_of, cells_by}
-use Rattle.fidelity.proofs.Laws.BoxMatches.{parsed_by, recording-parsed, cells_each}
+use Rattle.fidelity.specs.Laws.BoxMatches.{parsed_by}
+use Rattle.fidelity.proofs.Laws.BoxMatches.{recording-parsed, cells_each}
 use Rattle.fidelity.proofs.Laws.LowestFirst.{box_settled, box-steps, box-finished}
 use Rattle.fidelity.specs.Playable.{Packed, BoxPlays}
 use Rattle.fidelity.specs.Statement.{Accepted}

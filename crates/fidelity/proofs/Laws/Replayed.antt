@@ -19,10 +19,12 @@ use Rattle.history.proofs.Laws.Faithful.{faithful}
 use Rattle.replayer.specs.declared.Stepped.{Stepped}
 use Rattle.pending.proofs.Laws.All.{all_test}
 use Rattle.scheduler.specs.Finish.{tasks_in, finished_of}
-use Rattle.replayer.proofs.Laws.Frame.{Frame, frame_first}
+use Rattle.replayer.specs.Laws.Frame.{Frame}
+use Rattle.replayer.proofs.Laws.Frame.{frame_first}
 use Rattle.replayer.proofs.Laws.OpenOf.{opened-stands}
 use Rattle.replayer.specs.OpenOf.{open_of, opened_run}
-use Rattle.replayer.proofs.Laws.ReadyOf.{ReadySet, ready-word}
+use Rattle.replayer.specs.Laws.ReadyOf.{ReadySet}
+use Rattle.replayer.proofs.Laws.ReadyOf.{ready-word}
 use Rattle.replayer.specs.ReadyOf.{is_ready as is_ready_by, ready_of}
 use Rattle.pending.specs.Run.{task_at, cell_count}
 use Rattle.replayer.proofs.Laws.StepOf.{refused-stays}
@@ -31,9 +33,11 @@ use Rattle.replayer.proofs.Laws.Word.{zero_bit}
 use Rattle.scheduler.proofs.Laws.Finish.{ready-word_zero}
 use Rattle.fidelity.specs.Bench.{Bench, bench_of, answer_of, stepped, stepped_all, takes as takes_by, tally as tally_by, tally_of as tally_of_by, AllTaken as AllTakenBy}
 use Rattle.fidelity.specs.Filed.{filed_op}
-use Rattle.fidelity.proofs.Laws.Matches.{Matches}
-use Rattle.fidelity.proofs.Laws.Sim.{Sim, sim_ready}
-use Rattle.fidelity.proofs.Laws.SimStep.{Alike, sim_step}
+use Rattle.fidelity.specs.Laws.Matches.{Matches}
+use Rattle.fidelity.specs.Laws.Sim.{Sim}
+use Rattle.fidelity.proofs.Laws.Sim.{sim_ready}
+use Rattle.fidelity.specs.Laws.SimStep.{Alike}
+use Rattle.fidelity.proofs.Laws.SimStep.{sim_step}
 use Rattle.fidelity.proofs.Laws.SimRun.{sim_run, frame_run, tally-same, tally_of_same, all-taken-same}
 use Rattle.fidelity.proofs.Laws.SimStart.{holds, opened-is, sim_start}
 use Rattle.fidelity.specs.Statement.{Shows, RefusedBy}

@@ -10,11 +10,12 @@ use Rattle.history.specs.History.{History, count}
 use Rattle.history.proofs.Laws.Access.{access_bound}
 use Rattle.history.specs.Replay.{State, next, all_met, is_ready}
 use Rattle.history.proofs.Laws.Ready.{next-access, next-none}
-use Rattle.history.proofs.Laws.Run.{Kept}
+use Rattle.history.specs.Laws.Run.{Kept}
 use Rattle.entries.specs.declared.Checked.{Checked}
 use Rattle.pending.specs.declared.TaskRun.{TaskRun}
 use Rattle.pending.specs.declared.next.Next.TheVariants.{Refused}
-use Rattle.replayer.proofs.Laws.Left.{Left, left-entry}
+use Rattle.replayer.specs.Laws.Left.{Left}
+use Rattle.replayer.proofs.Laws.Left.{left-entry}
 use Rattle.pending.specs.Met.{all_met as all_met_by}
 use Rattle.pending.specs.Laws.Moved.{Shaped}
 use Rattle.pending.specs.Next.{entry_next, next_of}
@@ -24,20 +25,9 @@ use Rattle.pending.specs.Run.{task_at, done_of, cell_count}
 use Rattle.pending.specs.Sound.{sound_of}
 use Rattle.fidelity.specs.Bench.{Bench}
 use Rattle.fidelity.specs.Filed.{filed}
-use Rattle.fidelity.proofs.Laws.LeftOver.{left_of, left-next}
-
-pub record Sim (start : ℕ → ℕ) (h : History) (bytes : List ℕ) (tasks cells fields : ℕ) (s : State) (b : Bench) : Type 0 where
-  pub kept : Kept start h s
-  pub sound : sound_of b.run (length bytes) ≡ true
-  pub shaped : Shaped b.run
-  pub tasks_same : b.run.tasks ≡ tasks
-  pub fields_same : b.run.fields ≡ fields
-  pub cells_same : cell_count b.run ≡ cells
-  pub entries : length b.memory ≡ cells
-  pub done : (t : ℕ) → done_of b.run.runs t ≡ s.done t
-  pub counts : (t : ℕ) → t < tasks → (task_at b.run.runs t).count ≡ count t h
-  pub left : (t : ℕ) → t < tasks → Left b.run bytes t (left_of fields t (s.done t) h)
-  pub memory : (c : ℕ) → c < cells → get_or b.memory c 0 ≡ s.memory c
+use Rattle.fidelity.specs.Laws.LeftOver.{left_of}
+use Rattle.fidelity.proofs.Laws.LeftOver.{left-next}
+use Rattle.fidelity.specs.Laws.Sim.{Sim}
 
 met-same : (runs : List TaskRun) (done : ℕ → ℕ) (l : List Position) → ((t : ℕ) → done_of runs t ≡ done t) → all_met_by runs l ≡ all_met done l
 unfolding all_met_by

@@ -8,10 +8,12 @@ use Rattle.codec.specs.Bit.{bit}
 use Rattle.history.specs.History.{History}
 use Rattle.history.specs.Replay.{State, step, takes, run, tally, tally_of, AllTaken}
 use Rattle.pending.specs.declared.Run.{Run}
-use Rattle.replayer.proofs.Laws.Frame.{Frame, frame_step}
+use Rattle.replayer.specs.Laws.Frame.{Frame}
+use Rattle.replayer.proofs.Laws.Frame.{frame_step}
 use Rattle.fidelity.specs.Bench.{Bench, stepped, stepped_all, takes as takes_by, tally as tally_by, tally_of as tally_of_by, AllTaken as AllTakenBy}
-use Rattle.fidelity.proofs.Laws.Sim.{Sim}
-use Rattle.fidelity.proofs.Laws.SimStep.{Holds, sim_step}
+use Rattle.fidelity.specs.Laws.Sim.{Sim}
+use Rattle.fidelity.specs.Laws.SimStep.{Holds}
+use Rattle.fidelity.proofs.Laws.SimStep.{sim_step}
 
 module _ (start : ℕ → ℕ) (h : History) (bytes : List ℕ) (tasks cells fields : ℕ) (holds : Holds start h tasks) where
   pub sim_run : (s : State) (b : Bench) → Sim start h bytes tasks cells fields s b → (steps : List ℕ) → Sim start h bytes tasks cells fields (run h s steps) (stepped_all bytes b steps)

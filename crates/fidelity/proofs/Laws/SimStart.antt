@@ -7,14 +7,15 @@ use Rattle.history.specs.History.{History}
 use Rattle.history.proofs.Laws.Run.{kept_fresh}
 use Rattle.history.specs.Replay.{fresh}
 use Rattle.replayer.proofs.Laws.Left.{left-opened}
-use Rattle.replayer.proofs.Laws.OpenOf.{AtStart, opened-stands, Opens, open_accepts, open_accepted}
+use Rattle.replayer.specs.Laws.OpenOf.{AtStart, Opens}
+use Rattle.replayer.proofs.Laws.OpenOf.{opened-stands, open_accepts, open_accepted}
 use Rattle.replayer.specs.OpenOf.{opened_run, open_of}
 use Rattle.fidelity.specs.Bench.{bench_of}
 use Rattle.fidelity.proofs.Laws.Filed.{filed-count}
 use Rattle.fidelity.proofs.Laws.LeftOver.{left-all}
-use Rattle.fidelity.proofs.Laws.Matches.{Matches}
-use Rattle.fidelity.proofs.Laws.Sim.{Sim}
-use Rattle.fidelity.proofs.Laws.SimStep.{Holds}
+use Rattle.fidelity.specs.Laws.Matches.{Matches}
+use Rattle.fidelity.specs.Laws.Sim.{Sim}
+use Rattle.fidelity.specs.Laws.SimStep.{Holds}
 use Rattle.pending.specs.Run.{cell_count}
 
 module _ (start : ℕ → ℕ) (h : History) (bytes : List ℕ) (p : Parsed) (m : Matches start h bytes p) where

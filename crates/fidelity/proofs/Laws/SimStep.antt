@@ -19,26 +19,32 @@ use Rattle.history.specs.Replay.{State, is_ready, one_more, perform, shown, step
 use Rattle.history.proofs.Laws.Advance.{shown-recorded}
 use Rattle.history.proofs.Laws.Ready.{access-next}
 use Rattle.history.proofs.Laws.Run.{kept_step}
-use Rattle.history.proofs.Laws.Step.{Taken, Refused, taken, refused, step_goes}
+use Rattle.history.specs.Laws.Step.{Taken, Refused, taken, refused}
+use Rattle.history.proofs.Laws.Step.{step_goes}
 use Rattle.pending.specs.declared.TaskRun.{TaskRun}
 use Rattle.replayer.specs.declared.Stepped.{Stepped}
-use Rattle.replayer.proofs.Laws.Left.{Left, left-entry, left-own, left_other}
+use Rattle.replayer.specs.Laws.Left.{Left}
+use Rattle.replayer.proofs.Laws.Left.{left-entry, left-own, left_other}
 use Rattle.replayer.specs.Memory.{performed, value_of, agrees}
 use Rattle.pending.proofs.Laws.Moved.{moved-own, moved_other}
-use Rattle.pending.proofs.Laws.Next.{OpenEntry}
+use Rattle.pending.specs.Laws.Next.{OpenEntry}
 use Rattle.pending.specs.Next.{entry_next}
 use Rattle.pending.specs.Run.{task_at, done_of, moved_of}
 use Rattle.replayer.specs.ReadyOf.{is_ready as is_ready_by}
-use Rattle.replayer.proofs.Laws.StepOf.{Taken as TakenBy, Turned, Barred, no_task_lem, none_left, waiting, unread, taken as taken_by, turned, differing, step_goes as step-goes-by, step_keeps}
+use Rattle.replayer.specs.Laws.StepOf.{Taken as TakenBy, Turned, Barred, no_task_lem, none_left, waiting, unread, taken as taken_by, turned, differing}
+use Rattle.replayer.proofs.Laws.StepOf.{step_goes as step-goes-by, step_keeps}
 use Rattle.fidelity.specs.Bench.{Bench, answer_of, stepped, takes as takes_by}
 use Rattle.fidelity.specs.Filed.{filed, filed_op}
-use Rattle.fidelity.proofs.Laws.LeftOver.{left_of, left-next}
-use Rattle.fidelity.proofs.Laws.Matches.{Recordable}
-use Rattle.fidelity.proofs.Laws.Sim.{Sim, sim_ready, sim_reads}
+use Rattle.fidelity.specs.Laws.LeftOver.{left_of}
+use Rattle.fidelity.proofs.Laws.LeftOver.{left-next}
+use Rattle.fidelity.specs.Laws.Matches.{Recordable}
+use Rattle.fidelity.specs.Laws.Sim.{Sim}
+use Rattle.fidelity.proofs.Laws.Sim.{sim_ready, sim_reads}
 use Rattle.fidelity.specs.Statement.{Shows, RefusedBy}
 use Rattle.codec.specs.Cell.{op_cell}
 use Rattle.codec.specs.Laws.Cell.{cell_back}
 use Rattle.codec.specs.Laws.Kind.{kind-writes, kind-valued}
+use Rattle.fidelity.specs.Laws.SimStep.{Alike, Holds}
 
 -- an access is filed by its cell
 module _ (fields : ℕ) where
@@ -70,27 +76,6 @@ module _ (fields : ℕ) where
   agrees-same (Act.write x v) memory m n e low rec q = rw (kind-valued fields true)
   agrees-same (Act.acquire x) memory m n e low rec q = absurd rec
 
--- a taken step and its entry
-pub record Played (fields : ℕ) (h : History) (bytes : List ℕ) (s : State) (b : Bench) (t : ℕ) (e : Entry) : Type 0 where
-  pub access : Access h t (suc (s.done t)) e
-  pub replies : answer h s t ≡ some (record { number = suc (s.done t); act = shown e.act s.memory })
-  pub number : (answer_of bytes b t).access ≡ suc (s.done t)
-  pub shows : Shows fields (answer_of bytes b t) (shown e.act s.memory)
-  pub kind : (answer_of bytes b t).kind ≡ (filed_op fields e.act).kind
-  pub offset : (answer_of bytes b t).offset ≡ 0
-
-pub record Alike (start : ℕ → ℕ) (h : History) (bytes : List ℕ) (tasks cells fields : ℕ) (s : State) (b : Bench) (t : ℕ) : Type 0 where
-  pub same : takes_by bytes b t ≡ takes h s t
-  pub sim : Sim start h bytes tasks cells fields (step h s t) (stepped bytes b t)
-  pub played : takes_by bytes b t ≡ true → (e : Entry) × Played fields h bytes s b t e
-  pub barred : takes_by bytes b t ≡ false → RefusedBy (answer_of bytes b t).number
-
--- the history is sound, and every entry is one that a recording with this number of tasks can hold
-pub record Holds (start : ℕ → ℕ) (h : History) (tasks : ℕ) : Type 0 where
-  pub sound : Sound start h
-  pub low : {e : Entry} {g : History} → At e g h → e.task < tasks
-  pub recordable : {e : Entry} {g : History} → At e g h → Recordable e.act
-
 module _ (start : ℕ → ℕ) (h : History) (bytes : List ℕ) (tasks cells fields : ℕ) (holds : Holds start h tasks) (s : State) (b : Bench) (i : Sim start h bytes tasks cells fields s b) (t : ℕ) where
   -- the next access on the bench is the next entry of the history
   module _ (op : Op) (nx : ℕ) (run-below : t < b.run.tasks) (w : OpenEntry b.run.runs (task_at b.run.runs t).place (entry_next b.run bytes t) op nx) (low : op_cell b.run.fields op < length b.memory)
@@ -116,7 +101,7 @@ module _ (start : ℕ → ℕ) (h : History) (bytes : List ℕ) (tasks cells fie
     next-is = w.next ∙ ap (λ (f : FileEntry). (task_at b.run.runs t).place + entry_length f) entry-is
 
     few : t < max_tasks
-    few = omega (arith, run-below, (Rattle.pending.specs.Laws.Sound.sound_facts b.run (length bytes) i.sound).few_tasks)
+    few = omega (arith, run-below, (Rattle.pending.proofs.Laws.Sound.sound_facts b.run (length bytes) i.sound).few_tasks)
 
     cell_low : op_cell fields (filed_op fields e.act) < cells
     cell_low = let o : op_cell b.run.fields op < cells = omega (arith, low, i.entries) in rw (i.fields_same, op-is) at o

@@ -8,10 +8,11 @@ use Rattle.scheduler.specs.Finish.{finished_of}
 use Rattle.replayer.proofs.Laws.OpenOf.{open_accepts}
 use Rattle.fidelity.specs.Bench.{tally, bench_of}
 use Rattle.fidelity.specs.Box.{Opening, opened_by, Asked, last_box, recorded, recording_of, cells_by}
-use Rattle.fidelity.proofs.Laws.BoxMatches.{parsed_by, box-memory, memory_each, sections_accepted, recording-parsed, box_matches, cells_each, fields_stay}
+use Rattle.fidelity.specs.Laws.BoxMatches.{parsed_by}
+use Rattle.fidelity.proofs.Laws.BoxMatches.{box-memory, memory_each, sections_accepted, recording-parsed, box_matches, cells_each, fields_stay}
 use Rattle.fidelity.proofs.Laws.BoxReference.{answers_reference, memory_reference}
-use Rattle.fidelity.proofs.Laws.FirstBox.{start_of}
-use Rattle.fidelity.proofs.Laws.Matches.{Matches}
+use Rattle.fidelity.specs.Laws.FirstBox.{start_of}
+use Rattle.fidelity.specs.Laws.Matches.{Matches}
 use Rattle.fidelity.proofs.Laws.Replayed.{sim, done-same, taken_when_ready, refused_changes_nothing, refused_by, answers_recorded, word_sound, word_ready, memory_of_writes, never_more, stops_at_end, end_memory, end-finished, memory_entries, takes_recorded_order}
 use Rattle.fidelity.specs.Statement.{Accepted, after, done, Faithful}
 

@@ -11,14 +11,11 @@ use Rattle.history.proofs.Laws.History.{count_none, count-own, count-other, coun
 use Rattle.history.specs.Closed.{In}
 use Rattle.history.specs.Replay.{one_more}
 use Rattle.history.proofs.Laws.OneMore.{one_more-own, one_more_rises, comes_in}
+use Rattle.history.specs.Laws.Done.{AllDone}
 
 pub entries_in : (ℕ → ℕ) → History → ℕ
 entries_in done [] = 0
 entries_in done (e ∷ g) = bit (ltb (count e.task g) (done e.task)) + entries_in done g
-
--- every task has done all its entries
-abbrev pub AllDone : (ℕ → ℕ) → History → Type 0
-AllDone done h = (t : ℕ) → count t h ≤ done t
 
 entries_in_lem : (d : ℕ → ℕ) (e : Entry) (g : History) → In d e g → entries_in d (e ∷ g) ≡ suc (entries_in d g)
 unfolding entries_in

@@ -5,9 +5,6 @@ use Rattle.codec.specs.declared.Position.{Position}
 use Rattle.codec.specs.Laws.Decide.{never}
 use Rattle.history.specs.Entry.{Act, read, write, acquire, touches, writes, conflicts}
 
-abbrev pub ordering : (task number : ℕ) → Position
-ordering task number = record { task = task; number = number }
-
 pub writes-touches : (c : ℕ) (a : Act) → writes c a ≡ true → touches c a ≡ true
 writes-touches c (read x v) p = absurd (never false p refl)
 writes-touches c (write x v) p = p

@@ -5,7 +5,7 @@ use Rattle.std.proofs.Math.Option.{some}
 use Rattle.std.proofs.Common.{arith}
 use Rattle.codec.specs.declared.Position.{Position}
 use Rattle.history.specs.Entry.{Act, read, write, Entry}
-use Rattle.history.proofs.Laws.Entry.{ordering}
+use Rattle.history.specs.Laws.Entry.{ordering}
 use Rattle.history.specs.History.{History, count, At, here, there}
 use Rattle.history.proofs.Laws.History.{at-nil}
 use Rattle.history.specs.Closed.{In, Closed}
@@ -16,28 +16,7 @@ use Rattle.history.proofs.Laws.Sound.{sound_none, sound_more}
 use Rattle.history.specs.Replay.{next, is_ready, one_more, step, answer, run, recorded_order}
 use Rattle.history.specs.Faithful.{after, Faithful}
 use Rattle.history.proofs.Laws.Faithful.{faithful}
-
-abbrev entry : ℕ → Act → List Position → Entry
-entry task act orderings = record { task = task; act = act; orderings = orderings }
-
-abbrev zeros : ℕ → ℕ
-zeros c = 0
-
--- RUN A: task 0 writes 7 to cell 0, task 1 reads it, task 0 reads it, task 1 writes 9
-abbrev writes7 : Entry
-writes7 = entry 0 (write 0 7) []
-
-abbrev reads1 : Entry
-reads1 = entry 1 (read 0 7) (ordering 0 1 ∷ [])
-
-abbrev reads0 : Entry
-reads0 = entry 0 (read 0 7) (ordering 1 1 ∷ [])
-
-abbrev writes9 : Entry
-writes9 = entry 1 (write 0 9) (ordering 0 2 ∷ [])
-
-abbrev run_a : History
-run_a = writes9 ∷ reads0 ∷ reads1 ∷ writes7 ∷ []
+use Rattle.history.specs.Laws.Example.{entry, four_tasks, reads0, reads1, run_a, skipping, writes7, writes9, zeros}
 
 run_a_order : recorded_order run_a ≡ 0 ∷ 1 ∷ 0 ∷ 1 ∷ []
 unfolding recorded_order
@@ -94,23 +73,10 @@ run_a_sound =
 run_a_faithful : Faithful zeros run_a
 run_a_faithful = faithful run_a_sound
 
--- THE RUN OF FOUR TASKS: task 1 reads cell 0, task 2 reads cell 0 (which makes share 1), task 1 reads cell 1, task 3 reads cell 1 (row
--- 5), task 3 reads cell 0 (row 3, no ordering). The orderings that row 5 writes are a parameter.
-abbrev four_tasks : List Position → History
-four_tasks row5 = entry 3 (read 0 0) [] ∷ entry 3 (read 1 0) row5 ∷ entry 1 (read 1 0) [] ∷ entry 2 (read 0 0) (ordering 1 1 ∷ []) ∷ entry 1 (read 0 0) [] ∷ []
-
 -- With Last, closed counts that have task 3's second access also have task 2's, which made share 1.
 with_last : (d : ℕ → ℕ) → Closed d (four_tasks (ordering 1 2 ∷ ordering 2 1 ∷ [])) → 2 ≤ d 3 → 1 ≤ d 2
 unfolding count
 with_last d c two = omega (arith, c.met (there here) (omega arith))
-
--- Without it there are closed counts that have the first but not the second: tasks 1 and 3 have done two accesses each, task 2 none. So
--- nothing orders task 3's read of cell 0 after share 1.
-abbrev skipping : ℕ → ℕ
-skipping zero = 0
-skipping (suc zero) = 2
-skipping (suc (suc zero)) = 0
-skipping (suc (suc (suc t))) = 2
 
 without-last : Closed skipping (four_tasks (ordering 1 2 ∷ [])) × (2 ≤ skipping 3) × (1 ≤ skipping 2 → ⊥)
 without-last = (

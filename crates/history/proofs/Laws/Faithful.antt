@@ -12,11 +12,15 @@ use Rattle.history.specs.Memory.{memory_of}
 use Rattle.history.proofs.Laws.Memory.{memory-all}
 use Rattle.history.specs.Sound.{Sound}
 use Rattle.history.specs.Replay.{State, next, unheld, answer, takes, tally, fresh}
-use Rattle.history.proofs.Laws.Step.{taken, refused, step_goes, ready_iff, takes_iff, refused-stays}
+use Rattle.history.specs.Laws.Step.{taken, refused}
+use Rattle.history.proofs.Laws.Step.{step_goes, ready_iff, takes_iff, refused-stays}
 use Rattle.history.proofs.Laws.Advance.{shown-recorded}
-use Rattle.history.proofs.Laws.Done.{AllDone, entries-few, all-entries, entries-all, all_in}
-use Rattle.history.proofs.Laws.Progress.{finished, ready, progress, finished_unready}
-use Rattle.history.proofs.Laws.Run.{Kept, kept-after, done-step, done-after, tally-after}
+use Rattle.history.specs.Laws.Done.{AllDone}
+use Rattle.history.proofs.Laws.Done.{entries-few, all-entries, entries-all, all_in}
+use Rattle.history.specs.Laws.Progress.{finished, ready}
+use Rattle.history.proofs.Laws.Progress.{progress, finished_unready}
+use Rattle.history.specs.Laws.Run.{Kept}
+use Rattle.history.proofs.Laws.Run.{kept-after, done-step, done-after, tally-after}
 use Rattle.history.proofs.Laws.Order.{recorded-taken}
 use Rattle.history.specs.Faithful.{after, Faithful}
 

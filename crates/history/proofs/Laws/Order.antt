@@ -16,6 +16,7 @@ use Rattle.history.specs.Ready.{Ready}
 use Rattle.history.proofs.Laws.Ready.{access-ready}
 use Rattle.history.proofs.Laws.Step.{takes_iff}
 use Rattle.history.proofs.Laws.Run.{done-step}
+use Rattle.history.specs.Laws.Order.{Past}
 
 run-append : (h : History) (first second : List ℕ) (s : State) → run h s (first ++ second) ≡ run h (run h s first) second
 unfolding run
@@ -26,11 +27,6 @@ taken-append : (h : History) (first second : List ℕ) (s : State) → AllTaken 
 unfolding run AllTaken
 taken-append h [] second s p q = q
 taken-append h (t ∷ first) second s p q = (p.0, taken-append h first second (step h s t) p.1 q)
-
--- g is the history as it was at some moment
-abbrev Past : History → History → Type 0
-Past h [] = Unit {0}
-Past h (e ∷ g) = At e g h
 
 past_whole : (h : History) → Past h h
 past_whole [] = tt

@@ -11,11 +11,8 @@ use Rattle.history.specs.Closed.{Met}
 use Rattle.history.proofs.Laws.Closed.{met_mono}
 use Rattle.history.specs.Ready.{Ready}
 use Rattle.history.proofs.Laws.Ready.{access-ready}
-use Rattle.history.proofs.Laws.Done.{AllDone}
-
-pub data Progress (done : ℕ → ℕ) (h : History) : Type 0 where
-  finished : AllDone done h → Progress done h
-  ready : (t : ℕ) → Ready h done t → Progress done h
+use Rattle.history.specs.Laws.Done.{AllDone}
+use Rattle.history.specs.Laws.Progress.{Progress, finished, ready}
 
 pub progress : (d : ℕ → ℕ) (h : History) → ((e : Entry) (g : History) → At e g h → Met (λ t. count t g) e.orderings) → Progress d h
 progress d [] back = finished (λ t. omega (arith, count_none t))

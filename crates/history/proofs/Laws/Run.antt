@@ -11,15 +11,12 @@ use Rattle.history.specs.Memory.{memory_of}
 use Rattle.history.proofs.Laws.Memory.{memory_start}
 use Rattle.history.specs.Sound.{Sound}
 use Rattle.history.specs.Replay.{State, step, takes, run, tally, tally_of, fresh}
-use Rattle.history.proofs.Laws.Step.{taken, refused, step_goes}
+use Rattle.history.specs.Laws.Step.{taken, refused}
+use Rattle.history.proofs.Laws.Step.{step_goes}
 use Rattle.history.proofs.Laws.OneMore.{one_more-own, one_more-other}
 use Rattle.history.proofs.Laws.Advance.{closed_advance, perform-holds}
 use Rattle.history.proofs.Laws.Done.{entries_in, entries_none, entries-more}
-
-pub record Kept (start : ℕ → ℕ) (h : History) (s : State) : Type 0 where
-  pub closed : Closed s.done h
-  pub bounded : (t : ℕ) → s.done t ≤ count t h
-  pub holds : (c : ℕ) → s.memory c ≡ memory_of start s.done h c
+use Rattle.history.specs.Laws.Run.{Kept}
 
 pub kept_fresh : (start : ℕ → ℕ) (h : History) → Kept start h (fresh start)
 kept_fresh start h = record {

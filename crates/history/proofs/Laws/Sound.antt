@@ -7,6 +7,7 @@ use Rattle.history.specs.Closed.{In, Met, Closed}
 use Rattle.history.proofs.Laws.Closed.{closed_before}
 use Rattle.history.specs.Memory.{reference}
 use Rattle.history.specs.Sound.{Sound}
+use Rattle.history.specs.Laws.Sound.{Follows}
 
 pub sound_none : (start : ℕ → ℕ) → Sound start []
 sound_none start = record {
@@ -14,11 +15,6 @@ sound_none start = record {
   comes_after = λ a b p c i. absurd (at-nil a);
   reads_last = λ c v a p. absurd (at-nil a);
 }
-
--- The newest entry e comes after those entries of h whose act passes a test: closed counts for the whole history that have e in have them
--- in too.
-pub record Follows (e : Entry) (h : History) (test : Act → Bool) : Type 0 where
-  pub has : {d : ℕ → ℕ} {f : Entry} {k : History} → Closed d (e ∷ h) → In d e h → At f k h → test f.act ≡ true → In d f k
 
 -- a sound history with one more entry is sound if (A), (B) and (C) hold for that entry
 pub sound_more : {start : ℕ → ℕ} {e : Entry} {h : History} → Sound start h → Met (λ t. count t h) e.orderings → Follows e h (conflicts e.act)

@@ -11,23 +11,7 @@ use Rattle.history.specs.Closed.{Met}
 use Rattle.history.specs.Replay.{State, next, all_met, unheld, is_ready, one_more, perform, shown, step, answer, takes}
 use Rattle.history.specs.Ready.{Ready}
 use Rattle.history.proofs.Laws.Ready.{next-access, next-none, all_met-met, met-all_met, access-ready}
-
-pub record Taken (h : History) (s : State) (t : ℕ) (e : Entry) : Type 0 where
-  pub ready : is_ready h s t ≡ true
-  pub access : Access h t (suc (s.done t)) e
-  pub met : Met s.done e.orderings
-  pub moves : step h s t ≡ record { done = one_more t s.done; memory = perform e.act s.memory }
-  pub answers : answer h s t ≡ some (record { number = suc (s.done t); act = shown e.act s.memory })
-
-pub record Refused (h : History) (s : State) (t : ℕ) : Type 0 where
-  pub unready : is_ready h s t ≡ false
-  pub barred : Ready h s.done t → ⊥
-  pub stays : step h s t ≡ s
-  pub silent : answer h s t ≡ none
-
-pub data Goes (h : History) (s : State) (t : ℕ) : Type 0 where
-  taken : (e : Entry) → Taken h s t e → Goes h s t
-  refused : Refused h s t → Goes h s t
+use Rattle.history.specs.Laws.Step.{Goes, refused, taken}
 
 pub step_goes : (h : History) (s : State) (t : ℕ) → Goes h s t
 unfolding step answer

@@ -6,7 +6,8 @@ use lib.Seq.{length-take-le}
 use Rattle.replay_lines.specs.Limits.{most_steps}
 use Rattle.scheduler.proofs.Laws.Schedule.{schedule_short}
 use Rattle.scheduler.specs.Schedule.{schedule_of}
-use Rattle.transcript.proofs.Laws.Answered.{Ordered, ordered}
+use Rattle.transcript.specs.Laws.Answered.{Ordered}
+use Rattle.transcript.proofs.Laws.Answered.{ordered}
 use Rattle.pause.specs.Laws.Keeps.{within_sound, within_shaped, within-left}
 use Rattle.pause.specs.Laws.Widen.{front_of}
 use Rattle.follow.specs.Within.{run_within}

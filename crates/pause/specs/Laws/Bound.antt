@@ -14,7 +14,8 @@ use Rattle.replayer.specs.ReadyOf.{ready_of}
 use Rattle.replay_lines.proofs.Laws.Block.{turned_few, block_few}
 use Rattle.replay_lines.proofs.Laws.LinesBound.{end-few, memory-few, refusal_few}
 use Rattle.scheduler.specs.Finish.{Play, takes_step, finished_of}
-use Rattle.transcript.proofs.Laws.ToldBound.{Small, stays}
+use Rattle.transcript.specs.Laws.ToldBound.{Small}
+use Rattle.transcript.proofs.Laws.ToldBound.{stays}
 use Rattle.waits.proofs.Laws.Differ.{differ_short}
 use Rattle.waits.proofs.Laws.Waits.{waits_short}
 use Rattle.waits.specs.Waits.{waits_most}

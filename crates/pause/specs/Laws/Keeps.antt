@@ -13,9 +13,11 @@ use Rattle.pending.proofs.Laws.Moved.{moved-own, moved_other}
 use Rattle.pending.proofs.Laws.Sound.{sound_facts, sound_test}
 use Rattle.pending.specs.Run.{task_at, done_of, moved_of}
 use Rattle.pending.specs.Sound.{sound_of}
-use Rattle.replayer.proofs.Laws.StepOf.{taken, turned, differing, step_goes}
+use Rattle.replayer.specs.Laws.StepOf.{taken, turned, differing}
+use Rattle.replayer.proofs.Laws.StepOf.{step_goes}
 use Rattle.scheduler.specs.Finish.{Play, takes_step, stepped_by, left_in, left_over}
-use Rattle.transcript.proofs.Laws.ToldBound.{Small, stays}
+use Rattle.transcript.specs.Laws.ToldBound.{Small}
+use Rattle.transcript.proofs.Laws.ToldBound.{stays}
 use Rattle.follow.specs.Follow.{is_passed, answer_at, tried_of, is_over, followed_of}
 use Rattle.follow.specs.Laws.Within.{held-length}
 use Rattle.follow.specs.Within.{is_there, held_by, held_to, run_within}

@@ -26,7 +26,7 @@ use Rattle.scheduler.specs.Schedule.{schedule_of}
 use Rattle.text.specs.Appended.{Appended}
 use Rattle.text.specs.Laws.Appended.{nothing, joined}
 use Rattle.text.specs.Laws.Decimal.{decimal_short, field-length}
-use Rattle.replayer.proofs.Laws.ByHead.{Opening, away, found}
+use Rattle.replayer.specs.Laws.ByHead.{Opening, away, found}
 use Rattle.transcript.proofs.Laws.TextBound.{opened_small}
 use Rattle.waits.specs.Differ.{differ_of}
 use Rattle.waits.specs.Waits.{waits_most}

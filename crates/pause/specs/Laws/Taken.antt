@@ -7,7 +7,7 @@ use Rattle.entries.specs.Reading.{stop}
 use Rattle.replay_lines.specs.Block.{turned_line}
 use Rattle.replay_lines.specs.Lines.{line_of}
 use Rattle.scheduler.specs.Finish.{Play, takes_step, stepped_by}
-use Rattle.scheduler.proofs.Laws.Schedule.{AllTaken, StepsTo}
+use Rattle.scheduler.specs.Laws.Schedule.{AllTaken, StepsTo}
 use Rattle.scheduler.specs.Schedule.{played_by}
 use Rattle.transcript.proofs.Laws.Told.{taken-steps}
 use Rattle.follow.specs.Follow.{Followed, resting, in_front, is_passed, answer_at, tried_of, is_over, followed_of}

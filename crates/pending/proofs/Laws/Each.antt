@@ -7,6 +7,7 @@ use Rattle.std.proofs.Math.ListN.{length-set, get_or-append}
 use Rattle.std.proofs.Math.Seq.{take-suc-set}
 use Rattle.std.proofs.lemmas.List.{get_or_at}
 use Rattle.pending.specs.Each.{each}
+use Rattle.pending.specs.Laws.Each.{Filled}
 
 pub each-length : {A : Type 0} (f : ℕ → A) (n : ℕ) → length (each f n) ≡ n
 unfolding each
@@ -26,12 +27,6 @@ each_at f (suc n) k d h = elim (ℕ_discrete k n) [
 pub each_of : {A : Type 0} (f : ℕ → A) (n : ℕ) (l : List A) (d : A) → length l ≡ n → ((k : ℕ) → k < n → f k ≡ get_or l k d) → each f n ≡ l
 each_of f n l d h g =
     ext_get_or d (each f n) l (each-length f n ∙ sym h) (λ k b. let b : k < n = omega (arith, each-length f n) in each_at f n k d b ∙ g k b)
-
--- a list of n entries that is filled up to index i
-pub record Filled {A : Type 0} (f : ℕ → A) (n : ℕ) (l : List A) (i : ℕ) : Type 0 where
-  pub within : i ≤ n
-  pub long : length l ≡ n
-  pub front : take i l ≡ each f i
 
 module _ {A : Type 0} (f : ℕ → A) (n : ℕ) (l : List A) where
   pub filled_none : length l ≡ n → Filled f n l 0

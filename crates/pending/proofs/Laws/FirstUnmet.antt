@@ -17,7 +17,8 @@ use Rattle.entries.specs.Answers.{found}
 use Rattle.entries.proofs.Laws.Answers.{found-refused}
 use Rattle.entries.specs.Bytes.{entry_length}
 use Rattle.entries.proofs.Laws.Entry.{entry_ended}
-use Rattle.entries.proofs.Laws.EntryCase.{EntryCase, More, last, more, entry_case, found-entry}
+use Rattle.entries.specs.Laws.EntryCase.{EntryCase, More, last, more}
+use Rattle.entries.proofs.Laws.EntryCase.{entry_case, found-entry}
 use Rattle.entries.specs.OrderingAt.{ordering_at}
 use Rattle.entries.proofs.Laws.OrderingAt.{more-at}
 use Rattle.entries.specs.Part.{part}
@@ -35,6 +36,7 @@ use Rattle.pending.specs.Next.{judged, is_open}
 use Rattle.pending.specs.Run.{done_of}
 use Rattle.pending.specs.FirstUnmet.{unmet_at, DoneAll, Ahead, Holds}
 use Rattle.pending.specs.Unmet.{Unmet, none, first, unmet_of, unmet_in}
+use Rattle.pending.specs.Laws.FirstUnmet.{Passing}
 
 pub done_at_lem : (dones : List ℕ) (runs : List TaskRun) → dones_of runs ≡ dones → (s : ℕ) → s < max_tasks → get_or dones s 0 ≡ done_of runs s
 done_at_lem dones runs e s h = rw (← e) (dones_at runs s h)
@@ -97,14 +99,6 @@ module _ (runs : List TaskRun) (place : ℕ) (p : Position) (e : Entry) where
   unmet-here : done_of runs p.task < p.number → unmet_in runs place (read (record { orderings = p ∷ e.orderings; op = e.op })) ≡ first place p
   unfolding unmet_in unmet_of
   unmet-here h = rw (lt-leb p.number (done_of runs p.task) h)
-
--- an ordering is at an offset: if it is met the scan goes on, if not it holds up the task
-pub record Passing (m : Limits) (b dones : List ℕ) (from end place at : ℕ) (p : Position) : Type 0 where
-  pub room : place + 8 ≤ length b
-  pub below : p.task < max_tasks
-  pub met : p.number ≤ get_or dones p.task 0 → Ahead m b dones from end (place + 8) at
-  pub unmet : get_or dones p.task 0 < p.number → Looks dones from (group_at m b from end) Held
-  pub here : get_or dones p.task 0 < p.number → Holds m b dones from end (first place p)
 
 module _ (m : Limits) (b dones : List ℕ) (from end place at : ℕ) (w : Ahead m b dones from end place at) where
   ahead_case : EntryCase m place (part place end b) w.entry

@@ -14,11 +14,12 @@ use Rattle.codec.specs.Number.{in_body, ByReader}
 use Rattle.entries.specs.Bytes.{entry_length}
 use Rattle.entries.proofs.Laws.Bytes.{entry-long}
 use Rattle.entries.proofs.Laws.Entry.{entry-access}
-use Rattle.entries.proofs.Laws.EntryCase.{Entered, entry_entered, AccessIn}
+use Rattle.entries.specs.Laws.EntryCase.{Entered, AccessIn}
+use Rattle.entries.proofs.Laws.EntryCase.{entry_entered}
 use Rattle.entries.specs.Part.{part}
 use Rattle.entries.proofs.Laws.Part.{part_length}
 use Rattle.entries.proofs.Laws.Numbered.{entry-numbered}
-use Rattle.entries.proofs.Laws.Reading.{Numbered}
+use Rattle.entries.specs.Laws.Reading.{Numbered}
 use Rattle.entries.specs.Recording.{Entry}
 use Rattle.pending.specs.declared.TaskRun.{TaskRun}
 use Rattle.pending.specs.declared.Run.{Run}
@@ -28,14 +29,7 @@ use Rattle.pending.specs.Met.{all_met}
 use Rattle.pending.specs.Next.{entry_next, judged, next_of, is_open}
 use Rattle.codec.specs.Cell.{cell_of}
 use Rattle.codec.specs.Laws.Cell.{cell_below}
-
--- the entry of an access that may be done
-pub record OpenEntry (runs : List TaskRun) (at : ℕ) (x : Reading Entry) (o : Op) (n : ℕ) : Type 0 where
-  pub entry : Entry
-  pub reads : x ≡ read entry
-  pub met : all_met runs entry.orderings ≡ true
-  pub op : o ≡ entry.op
-  pub next : n ≡ at + entry_length entry
+use Rattle.pending.specs.Laws.Next.{OpenEntry}
 
 pub judged_open : (runs : List TaskRun) (at : ℕ) (x : Reading Entry) (o : Op) (n : ℕ) → judged runs at x ≡ Open o n → OpenEntry runs at x o n
 unfolding judged

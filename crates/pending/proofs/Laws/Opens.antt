@@ -11,7 +11,8 @@ use Rattle.entries.specs.declared.Checked.{Checked}
 use Rattle.entries.specs.declared.Limits.{Limits}
 use Rattle.entries.specs.Entry.{ordering_ok, after, access_of, entry_at}
 use Rattle.entries.proofs.Laws.Entry.{entry-end, entry-told, access_alone}
-use Rattle.entries.proofs.Laws.EntryCode.{position_at, turn_access, turn_range, turn_after}
+use Rattle.entries.specs.Laws.EntryCode.{position_at}
+use Rattle.entries.proofs.Laws.EntryCode.{turn_access, turn_range, turn_after}
 use Rattle.entries.specs.Part.{part}
 use Rattle.entries.proofs.Laws.Part.{part_none}
 use Rattle.entries.specs.Reading.{Reading, refused, read, is_read, stop}

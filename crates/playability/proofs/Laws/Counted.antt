@@ -8,11 +8,7 @@ use Rattle.entries.specs.Accesses.{accesses_in}
 use Rattle.entries.proofs.Laws.AccessCount.{accesses-on}
 use Rattle.entries.specs.Recording.{Entry}
 use Rattle.playability.specs.Order.{times, body_of, Allowed, Plays}
-
--- f at 0, 1, .., n - 1, added up
-unfoldable sum_to : ℕ → (ℕ → ℕ) → ℕ
-sum_to zero f = 0
-sum_to (suc n) f = sum_to n f + f n
+use Rattle.playability.specs.Laws.Counted.{sum_to}
 
 sum_same : (n : ℕ) (f g : ℕ → ℕ) → ((t : ℕ) → t < n → f t ≡ g t) → sum_to n f ≡ sum_to n g
 unfolding sum_to

@@ -17,6 +17,7 @@ use Rattle.replayer.specs.ReadyOf.{has_left}
 use Rattle.playability.specs.declared.hold.Hold.{Hold}
 use Rattle.playability.specs.declared.hold.Hold.TheVariants.{Free, Held}
 use Rattle.playability.specs.Hold.{offset_in, hold_from, hold_of}
+use Rattle.playability.specs.Laws.Held.{HoldIs, free, held}
 
 -- the offset as the code finds it
 module _ (r : Run) (b : List ℕ) (t : ℕ) (x : TaskRun) (m : Limits) (dones : List ℕ) (w : OneTask r t x m dones) (scan at : ℕ) (k : Holds m b dones x.place x.end (unmet_at b scan at)) where
@@ -41,11 +42,6 @@ module _ (b : List ℕ) (r : Run) (n i : ℕ) where
   pub hold_end : n ≤ i → hold_from b r i (n - i) ≡ Free
   unfolding hold_from
   hold_end h = let e : n - i ≡ 0 = omega arith in rw e
-
--- what is found among the n tasks from i on
-pub data HoldIs (b : List ℕ) (r : Run) (i n : ℕ) (k : Hold) : Type 0 where
-  held : (t : ℕ) → t < n → has_left r (i + t) ≡ true → ((u : ℕ) → u < t → has_left r (i + u) ≡ false) → k ≡ Held (i + t) (offset_in (unmet_next r b (i + t))) → HoldIs b r i n k
-  free : ((u : ℕ) → u < n → has_left r (i + u) ≡ false) → k ≡ Free → HoldIs b r i n k
 
 module _ (b : List ℕ) (r : Run) where
   -- one more task in front

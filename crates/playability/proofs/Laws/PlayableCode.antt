@@ -20,11 +20,7 @@ use Rattle.playability.specs.Hold.{hold_of}
 use Rattle.playability.specs.PlayableOf.{refused_playable, playable_of}
 use Rattle.playability.proofs.Laws.PlayableOf.{bytes-refused, task-held, output-short, order-fits}
 use Rattle.playability.specs.Settle.{settled_in, settle_of}
-
--- what `settle` answers: a refusal, or a recording
-pub data Settles (b : List ℕ) (s : Settled) : Type 0 where
-  away : (s.number ≡ 0 → ⊥) → ((out : List ℕ) → record { answer = refused_playable s.number s.offset 0; out = out } ≡ playable_of b out) → Settles b s
-  stood : (p : Parsed) → parse b ≡ read p → s.number ≡ 0 → s.start ≡ opened_run p → s.run ≡ settled_of b (opened_run p) → s.steps ≡ length (schedule_of b (opened_run p)) → Settles b s
+use Rattle.playability.specs.Laws.PlayableCode.{Settles, away, stood}
 
 pub settles : (b : List ℕ) (s : Settled) → s ≡ settle_of b → Settles b s
 unfolding settle_of settled_in

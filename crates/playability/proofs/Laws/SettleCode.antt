@@ -18,18 +18,14 @@ use Rattle.replayer.proofs.Laws.OpenOf.{opened-stands}
 use Rattle.replayer.specs.OpenOf.{begun_of, opened_run}
 use Rattle.replayer.specs.ReadyOf.{ready_of}
 use Rattle.scheduler.specs.Finish.{left_over}
-use Rattle.scheduler.proofs.Laws.Lowest.{IsNext, behind}
+use Rattle.scheduler.specs.Laws.Lowest.{IsNext}
+use Rattle.scheduler.proofs.Laws.Lowest.{behind}
 use Rattle.scheduler.proofs.Laws.Opened.{opened-few}
 use Rattle.scheduler.proofs.Laws.Schedule.{schedule_short, schedule_next}
 use Rattle.scheduler.proofs.Laws.Settled.{settled_next, settled_stops}
 use Rattle.scheduler.specs.Schedule.{schedule_of, settled_of}
 use Rattle.playability.specs.Settle.{settled_in, settle_of}
-
--- a run after some steps: it will stop where the first run stops, after as many steps in all
-pub record Settling (b : List ℕ) (start r : Run) (steps : ℕ) : Type 0 where
-  pub shaped : Shaped r
-  pub same : settled_of b r ≡ settled_of b start
-  pub count : steps + length (schedule_of b r) ≡ length (schedule_of b start)
+use Rattle.playability.specs.Laws.SettleCode.{Settling}
 
 pub settling_none : (b : List ℕ) (r : Run) → Shaped r → Settling b r r 0
 settling_none b r h = record { shaped = h; same = refl; count = omega arith }

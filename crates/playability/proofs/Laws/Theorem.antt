@@ -29,20 +29,13 @@ use Rattle.playability.specs.Order.{times, body_of, Allowed, Plays, LowestFirst,
 use Rattle.playability.specs.PlayableOf.{PlayableOutcome, refused_playable}
 use Rattle.playability.specs.Statement.{HeldUp, answer, after, Answers}
 use Rattle.playability.proofs.Laws.Counted.{plays-length}
-use Rattle.playability.proofs.Laws.Held.{held, free, hold_is}
+use Rattle.playability.specs.Laws.Held.{held, free}
+use Rattle.playability.proofs.Laws.Held.{hold_is}
 use Rattle.playability.proofs.Laws.PlayableOf.{bytes-refused, task-held, output-short, order-fits}
 use Rattle.playability.proofs.Laws.Order.{Stops, most-done, never_more}
-use Rattle.playability.proofs.Laws.Walk.{Reached, start_at, order-reached, order_stops}
-
--- orderings that are not all met: the first unmet one, and the offset of its record
-record Parted (runs : List TaskRun) (d : ℕ → ℕ) (at : ℕ) (ps : List Position) : Type 0 where
-  pub first : List Position
-  pub unmet : Position
-  pub rest : List Position
-  pub whole : ps ≡ first ++ (unmet ∷ rest)
-  pub met : Met d first
-  pub below : d unmet.task < unmet.number
-  pub is : unmet_of runs at ps ≡ Unmet.first (at + 8 * length first) unmet
+use Rattle.playability.specs.Laws.Walk.{Reached}
+use Rattle.playability.proofs.Laws.Walk.{start_at, order-reached, order_stops}
+use Rattle.playability.specs.Laws.Theorem.{Parted, Result, none, room, short}
 
 parted : (runs : List TaskRun) (d : ℕ → ℕ) → ((s : ℕ) → done_of runs s ≡ d s) → (at : ℕ) (ps : List Position) → (Met d ps → ⊥) → Parted runs d at ps
 unfolding unmet_of
@@ -159,15 +152,6 @@ module _ (b : List ℕ) (p : Parsed) (e : parse b ≡ read p) where
       never = λ other a. omega (arith, most other a parts.unmet.task, parts.below);
       place = ap offset_in next-unmet ∙ ap (λ (o : ℕ). o + 8 * length parts.first) (reached.place t h);
     }
-
--- the answer to a recording: there is no order; there is one and the output is too short; or it is written
-data Result (b out : List ℕ) (p : Parsed) : Type 0 where
-  none : (t offset : ℕ) → answer b out ≡ refused_playable no_order offset t → after b out ≡ out → HeldUp p t offset
-      → ((order : List ℕ) → Plays p.recording.bodies order → ⊥) → Result b out p
-  short : (order : List ℕ) → answer b out ≡ refused_playable no_room 0 0 → after b out ≡ out → Plays p.recording.bodies order
-      → length out < accesses_in p.recording.bodies → Result b out p
-  room : (order : List ℕ) → answer b out ≡ record { number = 0; offset = 0; task = 0; steps = accesses_in p.recording.bodies } → after b out ≡ store out 0 order
-      → Plays p.recording.bodies order → LowestFirst p.recording.bodies order → accesses_in p.recording.bodies ≤ length out → Result b out p
 
 module _ (b out : List ℕ) (p : Parsed) (e : parse b ≡ read p) where
   -- no task has accesses left: the output is long enough, or not

@@ -24,17 +24,20 @@ use Rattle.pending.proofs.Laws.Next.{open_met}
 use Rattle.pending.specs.Met.{all_met}
 use Rattle.pending.specs.Next.{next_of}
 use Rattle.pending.specs.Run.{task_at, done_of, moved_of}
-use Rattle.replayer.proofs.Laws.Along.{Along, along_opened, along_entry, along_moved, along_place}
+use Rattle.replayer.specs.Laws.Along.{Along}
+use Rattle.replayer.proofs.Laws.Along.{along_opened, along_entry, along_moved, along_place}
 use Rattle.replayer.proofs.Laws.OpenOf.{opened-stands}
-use Rattle.replayer.proofs.Laws.ReadyOf.{ready, nowhere, ready-word}
+use Rattle.replayer.specs.Laws.ReadyOf.{ready, nowhere}
+use Rattle.replayer.proofs.Laws.ReadyOf.{ready-word}
 use Rattle.replayer.proofs.Laws.Word.{zero_bit}
 use Rattle.replayer.specs.OpenOf.{opened_run}
 use Rattle.replayer.specs.ReadyOf.{has_left, is_ready, ready_of}
 use Rattle.scheduler.specs.Schedule.{schedule_of, settled_of}
-use Rattle.scheduler.proofs.Laws.Lowest.{IsNext}
+use Rattle.scheduler.specs.Laws.Lowest.{IsNext}
 use Rattle.scheduler.proofs.Laws.Settled.{settled_keeps, settled_ends}
 use Rattle.playability.specs.Order.{times, body_of, Ready, Allowed, LowestFirst, size_of}
 use Rattle.playability.proofs.Laws.Order.{times-own, times-other, times_none, Stops, size-more}
+use Rattle.playability.specs.Laws.Walk.{Reached}
 
 -- met orderings, by the run's test and by counts
 all-met : (runs : List TaskRun) (d : ℕ → ℕ) → ((s : ℕ) → done_of runs s ≡ d s) → (ps : List Position) → all_met runs ps ≡ true → Met d ps
@@ -59,15 +62,6 @@ place-more P before t all last n h = elim (dec_lt n (length before)) [
       let e : n ≡ length before = omega arith in
       rw (e, take-append_seam before (t ∷ []), get_or-append_seam before t [] 0) last
 ]
-
--- a run that the steps so far lead to; `starts` is where the bodies start
-pub record Reached (b : List ℕ) (bodies : List (List Entry)) (starts : ℕ → ℕ) (r : Run) (before : List ℕ) : Type 0 where
-  pub along : Along b bodies r
-  pub each : length bodies ≡ r.tasks
-  pub done : (t : ℕ) → done_of r.runs t ≡ times t before
-  pub place : (t : ℕ) → t < r.tasks → (task_at r.runs t).place ≡ starts t + size_of (take (times t before) (body_of bodies t))
-  pub allowed : Allowed bodies before
-  pub lowest : LowestFirst bodies before
 
 module _ (b : List ℕ) (bodies : List (List Entry)) (starts : ℕ → ℕ) (r : Run) (before : List ℕ) (w : Reached b bodies starts r before) where
   -- a ready task is one of the recording's

@@ -13,9 +13,10 @@ use Rattle.pending.proofs.Laws.All.{all_facts}
 use Rattle.pending.specs.declared.Run.{Run}
 use Rattle.scheduler.specs.Finish.{Play, goes_on, onward, left_over, finish_of, tasks_in, is_done, finished_of}
 use Rattle.playback.specs.Shown.{stopped_of, shown_play}
-use Rattle.scheduler.specs.Laws.Finish.{Playing}
-use Rattle.scheduler.proofs.Laws.Finish.{Onward, goes_onward, none_stops, finish_on, finish_end}
-use Rattle.scheduler.proofs.Laws.Lowest.{IsNext, step-agrees, step-differs}
+use Rattle.scheduler.specs.Laws.Finish.{Playing, Onward}
+use Rattle.scheduler.proofs.Laws.Finish.{goes_onward, none_stops, finish_on, finish_end}
+use Rattle.scheduler.specs.Laws.Lowest.{IsNext}
+use Rattle.scheduler.proofs.Laws.Lowest.{step-agrees, step-differs}
 use Rattle.replayer.specs.Memory.{performed, agrees}
 use Rattle.replayer.specs.ReadyOf.{has_left, ready_of}
 use Rattle.pending.specs.Run.{moved_of}

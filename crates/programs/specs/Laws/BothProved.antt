@@ -19,7 +19,7 @@ use Rattle.replayer.specs.declared.Stepped.{Stepped}
 use Rattle.scheduler.specs.Finish.{stepped_by, Play}
 use Rattle.replayer.specs.OpenOf.{opened_run}
 use Rattle.scheduler.specs.Schedule.{schedule_of, played_by}
-use Rattle.scheduler.proofs.Laws.Schedule.{AllTaken as AllTakenBy}
+use Rattle.scheduler.specs.Laws.Schedule.{AllTaken as AllTakenBy}
 use Rattle.replayer.specs.StepOf.{step_of}
 use Rattle.fidelity.specs.Bench.{Bench, bench_of, stepped, stepped_all, takes, tally_of, AllTaken}
 use Rattle.fidelity.specs.Box.{Opening, Asked, last_box, recorded, recording_of, recording_by, cells_by}

@@ -3,7 +3,8 @@ use Rattle.std.specs.Prelude.{List, ◌≡◌, ℕ, length, replicate}
 use Rattle.std.proofs.lemmas.List.{length-replicate}
 use Rattle.fidelity.specs.Box.{last_box, recording_of, cells_by}
 use Rattle.fidelity.proofs.Laws.Counted.{counted-value}
-use Rattle.fidelity.proofs.Laws.BoxMatches.{parsed_by, in_range, recording-bytes, recording-parsed}
+use Rattle.fidelity.specs.Laws.BoxMatches.{parsed_by}
+use Rattle.fidelity.proofs.Laws.BoxMatches.{in_range, recording-bytes, recording-parsed}
 use Rattle.listing.specs.Laws.Complete.{value-shown}
 use Rattle.script.specs.RecordOf.{record_of}
 use Rattle.programs.specs.Listed.{Listed}

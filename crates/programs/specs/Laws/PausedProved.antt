@@ -6,7 +6,8 @@ use Rattle.std.proofs.lemmas.List.{length-replicate}
 use Rattle.codec.specs.Laws.Decide.{never}
 use Rattle.entries.specs.Reading.{read as reads}
 use Rattle.fidelity.specs.Box.{Opening, Asked, last_box, recording_of, recording_by, cells_by}
-use Rattle.fidelity.proofs.Laws.BoxMatches.{parsed_by, recording-parsed}
+use Rattle.fidelity.specs.Laws.BoxMatches.{parsed_by}
+use Rattle.fidelity.proofs.Laws.BoxMatches.{recording-parsed}
 use Rattle.fidelity.proofs.Laws.LowestFirst.{box-refused}
 use Rattle.fidelity.proofs.Laws.OnePlace.{one_place}
 use Rattle.fidelity.specs.Statement.{Accepted, RefusedBy}
@@ -18,7 +19,7 @@ use Rattle.pause.specs.Text.{start_of, followed_by, answer_of}
 use Rattle.pending.specs.Run.{done_of}
 use Rattle.reader.specs.Parse.{Parsed, parse}
 use Rattle.replayer.specs.OpenOf.{opened_run}
-use Rattle.scheduler.proofs.Laws.Schedule.{StepsTo}
+use Rattle.scheduler.specs.Laws.Schedule.{StepsTo}
 use Rattle.script.specs.RecordOf.{record_of}
 use Rattle.programs.specs.Paused.{Pauses}
 use Rattle.programs.specs.WholeRecording.{outs_of}

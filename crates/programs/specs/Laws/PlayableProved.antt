@@ -3,7 +3,8 @@ use Rattle.std.specs.Prelude.{List, ◌≡◌, refl, ℕ, length, replicate}
 use Rattle.std.proofs.Common.{◌∙◌}
 use Rattle.std.proofs.lemmas.List.{length-replicate}
 use Rattle.fidelity.specs.Box.{last_box, recording_of, cells_by}
-use Rattle.fidelity.proofs.Laws.BoxMatches.{parsed_by, recording-parsed}
+use Rattle.fidelity.specs.Laws.BoxMatches.{parsed_by}
+use Rattle.fidelity.proofs.Laws.BoxMatches.{recording-parsed}
 use Rattle.fidelity.proofs.Laws.LowestFirst.{box-steps}
 use Rattle.fidelity.proofs.Laws.Playable.{box-none-left}
 use Rattle.fidelity.specs.Playable.{Packed}

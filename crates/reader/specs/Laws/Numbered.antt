@@ -10,7 +10,8 @@ use Rattle.codec.specs.Number.{short}
 use Rattle.codec.specs.Laws.Within.{Within, record-within}
 use Rattle.entries.specs.declared.Limits.{Limits}
 use Rattle.entries.specs.Reading.{stop}
-use Rattle.entries.proofs.Laws.Reading.{Numbered, numbered-mapped, numbered_then}
+use Rattle.entries.specs.Laws.Reading.{Numbered}
+use Rattle.entries.proofs.Laws.Reading.{numbered-mapped, numbered_then}
 use Rattle.entries.specs.Body.{body_entries}
 use Rattle.reader.specs.Section.{taken, section_body, on_section, section_at, sections_of}
 use Rattle.reader.specs.Parse.{HeadFields, on_head, head_at, parsed_of, sections_after, parse, sizes_ok, all_below, owners_of}

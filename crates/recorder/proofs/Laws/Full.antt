@@ -4,7 +4,8 @@ use Rattle.std.proofs.Common.{ap, ◌∙◌, arith, le-leb}
 use Rattle.std.proofs.lemmas.Bool.{lt-leb}
 use lib.ListN.{length, replicate}
 use Rattle.reader.specs.Parse.{all_below}
-use Rattle.tracker.proofs.Laws.Facts.{Sound, sound_test}
+use Rattle.tracker.specs.Laws.Facts.{Sound}
+use Rattle.tracker.proofs.Laws.Facts.{sound_test}
 use Rattle.tracker.proofs.Laws.Kept.{next_facts}
 use Rattle.tracker.proofs.Laws.After.{next-tasks, next_cells, next_shaped, next-done}
 use Rattle.tracker.specs.Opened.{opened_state}
@@ -14,22 +15,14 @@ use Rattle.codec.specs.Head.{head_step, head_size}
 use Rattle.codec.specs.Kind.{head_kind_of}
 use Rattle.codec.specs.Laws.Cell.{width_some, cell_below}
 use Rattle.codec.specs.Limit.{is_within}
-use Rattle.tracker.proofs.Laws.State.{Shaped}
+use Rattle.tracker.specs.Laws.State.{Shaped}
 use Rattle.tracker.specs.State.{cell_count, done_of}
 use Rattle.recorder.specs.AccessOf.{cell_at, checked, access_number, accepted, refused, access_of}
 use Rattle.recorder.proofs.Laws.Accepted.{Takes, takes-accepted, entry_bound}
 use Rattle.opening.specs.OpenOf.{entries_ok, open_number, opened, open_by}
 use Rattle.recorder.specs.WholeRun.{Call, Box, outcome, called, called_all}
 use Rattle.recorder.specs.Full.{again, opening, first, Full}
-
--- one task and one object of one field, n accesses made
-record Stands (b : Box) (n : ℕ) : Type 0 where
-  pub sound : Sound b.state
-  pub shaped : Shaped b.state
-  pub tasks : b.state.tasks ≡ 1
-  pub cells : cell_count b.state ≡ 1
-  pub memory : length b.memory ≡ 1
-  pub done : done_of b.state 0 ≡ n
+use Rattle.recorder.specs.Laws.Full.{Stands}
 
 takes : (b : Box) (n : ℕ) → Stands b n → n < 65535 → Takes b.state 0 0 0 0 0 b.memory (replicate 140 0)
 takes b n w h = record {

@@ -12,6 +12,7 @@ use Rattle.replayer.specs.Word.{has_bit}
 use Rattle.text.specs.Decimal.{field_of}
 use Rattle.replay_lines.specs.Lines.{spaced, memory_of}
 use Rattle.replay_lines.specs.Block.{turned_line, row_of, chosen, ready_tasks, paused_line, done_line, ready_line, block_of}
+use Rattle.replay_lines.specs.Laws.BlockCode.{Picked}
 
 pub turned_length : (task number : ℕ) → length (turned_line task number) ≡ length (field_of task 32) + 8 + length (field_of number 10)
 unfolding turned_line
@@ -34,14 +35,6 @@ block_length steps r word m = simp length-append (omega arith)
 pub each-front : (f : ℕ → ℕ) (k n : ℕ) → k ≤ n → take k (each f n) ≡ each f k
 each-front f k n h =
     sym (each_of f k (take k (each f n)) 0 (length-take-le k (each f n) (omega (arith, each-length f n))) (λ i b. sym (get_or-take k (each f n) i 0 b ∙ each_at f n i 0 (omega arith))))
-
--- n tasks of the word are found below t, and w is what is left of the word
-pub record Picked (word w : ℕ) (tasks : List ℕ) (n t : ℕ) : Type 0 where
-  pub within : t ≤ 16
-  pub few : n ≤ t
-  pub long : length tasks ≡ 16
-  pub left : (s : ℕ) → has_bit word (t + s) ≡ has_bit w s
-  pub found : ready_tasks word ≡ take n tasks ++ chosen (has_bit word) t (16 - t)
 
 pub picked_none : (word : ℕ) (tasks : List ℕ) → length tasks ≡ 16 → Picked word word tasks 0 0
 picked_none word tasks h = record { within = omega arith; few = omega arith; long = h; left = λ s. rw zero-add; found = refl }

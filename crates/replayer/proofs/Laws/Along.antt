@@ -20,14 +20,10 @@ use Rattle.pending.specs.Next.{entry_next, next_of}
 use Rattle.pending.specs.Run.{task_at, done_of, moved_of}
 use Rattle.pending.specs.Sound.{sound_of}
 use Rattle.replayer.specs.OpenOf.{opened_run}
-use Rattle.replayer.proofs.Laws.Left.{Left, left-entry, left-own, left_other, left-opened}
+use Rattle.replayer.specs.Laws.Left.{Left}
+use Rattle.replayer.proofs.Laws.Left.{left-entry, left-own, left_other, left-opened}
 use Rattle.replayer.proofs.Laws.OpenOf.{opened-stands}
-
-pub record Along (b : List ℕ) (bodies : List (List Entry)) (r : Run) : Type 0 where
-  pub sound : sound_of r (length b) ≡ true
-  pub shaped : Shaped r
-  pub left : (t : ℕ) → t < r.tasks → Left r b t (drop (done_of r.runs t) (get_or bodies t []))
-  pub count : (t : ℕ) → t < r.tasks → (task_at r.runs t).count ≡ length (get_or bodies t [])
+use Rattle.replayer.specs.Laws.Along.{Along}
 
 pub along_opened : (b : List ℕ) (p : Parsed) → parse b ≡ read p → Along b p.recording.bodies (opened_run p)
 along_opened b p e =

@@ -13,11 +13,7 @@ use Rattle.replayer.specs.declared.Opened.{Opened}
 use Rattle.replayer.proofs.Laws.OpenOf.{open_accepts}
 use Rattle.replayer.specs.OpenedOf.{opened_of}
 use Rattle.replayer.specs.OpenOf.{opened_run, on_parse, open_of}
-
--- the answer, and the memory after the call
-pub data Opening (b : List ℕ) (o : Opened) (m : List ℕ) : Type 0 where
-  away : (c : Checked) → parse b ≡ refused c → o.number ≡ c.number → o.offset ≡ c.offset → ByReader c.number → Opening b o m
-  found : (p : Parsed) → parse b ≡ read p → o.number ≡ 0 → o.run ≡ opened_run p → m ≡ p.recording.values → Opening b o m
+use Rattle.replayer.specs.Laws.ByHead.{Opening, away, found}
 
 pub opening : (b k : List ℕ) (o : Opened) (m : List ℕ) → length k ≡ cells_by (head_at b) → o ≡ opened_of b k → m ≡ (open_of b k).memory → Opening b o m
 unfolding open_of on_parse

@@ -13,18 +13,12 @@ use Rattle.pending.proofs.Laws.Sound.{sound_facts}
 use Rattle.pending.specs.Run.{blank_task, task_at, done_of, limits_of, moved_of, cell_count}
 use Rattle.pending.specs.Sound.{sound_of}
 use Rattle.replayer.specs.declared.Stepped.{Stepped}
-use Rattle.replayer.proofs.Laws.Left.{Left, left-place}
-use Rattle.replayer.proofs.Laws.StepOf.{Turned, taken, turned, differing, step_goes}
+use Rattle.replayer.specs.Laws.Left.{Left}
+use Rattle.replayer.proofs.Laws.Left.{left-place}
+use Rattle.replayer.specs.Laws.StepOf.{Turned, taken, turned, differing}
+use Rattle.replayer.proofs.Laws.StepOf.{step_goes}
 use Rattle.replayer.specs.StepOf.{step_of}
-
-pub record Frame (from r : Run) : Type 0 where
-  pub tasks : r.tasks ≡ from.tasks
-  pub objects : r.objects ≡ from.objects
-  pub fields : r.fields ≡ from.fields
-  pub shaped : Shaped r
-  pub ends : (t : ℕ) → (task_at r.runs t).end ≡ (task_at from.runs t).end
-  pub counts : (t : ℕ) → (task_at r.runs t).count ≡ (task_at from.runs t).count
-  pub past : (t : ℕ) → from.tasks ≤ t → task_at r.runs t ≡ task_at from.runs t
+use Rattle.replayer.specs.Laws.Frame.{Frame, LeftBoth}
 
 pub frame_first : (r : Run) → Shaped r → Frame r r
 frame_first r s = record { tasks = refl; objects = refl; fields = refl; shaped = s; ends = λ t. refl; counts = λ t. refl; past = λ t h. refl }
@@ -62,12 +56,6 @@ task-same x y p e d c = λ i. record { place = p i; end = e i; done = d i; count
 
 run-same : (r q : Run) → r.tasks ≡ q.tasks → r.objects ≡ q.objects → r.fields ≡ q.fields → r.runs ≡ q.runs → r ≡ q
 run-same r q t o f s = λ i. record { tasks = t i; objects = o i; fields = f i; runs = s i }
-
--- a task has the same accesses left in both runs
-pub record LeftBoth (r q : Run) (b : List ℕ) (t : ℕ) : Type 0 where
-  pub entries : List Entry
-  pub one : Left r b t entries
-  pub other : Left q b t entries
 
 module _ (from r q : Run) (b : List ℕ) (f : Frame from r) (g : Frame from q) (s : sound_of r (length b) ≡ true) (z : sound_of q (length b) ≡ true) where
   pub frame_same : ((t : ℕ) → t < from.tasks → done_of r.runs t ≡ done_of q.runs t) → ((t : ℕ) → t < from.tasks → LeftBoth r q b t) → r ≡ q

@@ -25,18 +25,7 @@ use Rattle.pending.specs.Laws.Moved.{Shaped}
 use Rattle.pending.proofs.Laws.Moved.{moved-own, moved_other}
 use Rattle.replayer.specs.OpenOf.{start_of, opened_run}
 use Rattle.replayer.proofs.Laws.OpenOf.{opened-stands}
-
--- the bytes from the task's place to its body's end read as these accesses
-abbrev pub LeftOf : Limits → TaskRun → List ℕ → List Entry → Type 0
-LeftOf m x b es = body_entries m x.place (part x.place x.end b) ≡ read es
-
-abbrev pub Left : Run → List ℕ → ℕ → List Entry → Type 0
-Left r b t es = LeftOf (limits_of r t) (task_at r.runs t) b es
-
--- a body that begins with an entry: the entry is read first, and then the rest
-record First (m : Limits) (x : TaskRun) (b : List ℕ) (e : Entry) (es : List Entry) : Type 0 where
-  pub entry : entry_at m (stop in_body x.place) x.place (part x.place x.end b) ≡ read e
-  pub rest : LeftOf m (advanced x (x.place + entry_length e)) b es
+use Rattle.replayer.specs.Laws.Left.{First, Left, LeftOf, LeftWhole}
 
 first_of : (m : Limits) (at : ℕ) (e : Entry) (es : List Entry) (l : List ℕ) (y : Reading Entry)
     → and_then y (λ f. mapped (λ fs. f ∷ fs) (body_entries m (at + entry_length f) (drop (entry_length f) l))) ≡ read (e ∷ es)
@@ -112,11 +101,6 @@ module _ (r : Run) (b : List ℕ) (t : ℕ) where
   pub left_other : (u next : ℕ) (es : List Entry) → (t ≡ u → ⊥) → Left r b t es → Left (moved_of r u next) b t es
   unfolding moved_of
   left_other u next es d h = rw (moved_other r u next t d) h
-
--- at the start all of the task's accesses are left, and their number is its count
-pub record LeftWhole (b : List ℕ) (p : Parsed) (t : ℕ) : Type 0 where
-  pub left : Left (opened_run p) b t (get_or p.recording.bodies t [])
-  pub count : (task_at (opened_run p).runs t).count ≡ length (get_or p.recording.bodies t [])
 
 pub left-opened : (b : List ℕ) (p : Parsed) → parse b ≡ read p → (t : ℕ) → t < p.recording.tasks → LeftWhole b p t
 left-opened b p e t h =

@@ -24,6 +24,7 @@ use Rattle.replayer.specs.OpenOf.{start_of, starts_of, begun_of, opened_run, ref
 use Rattle.replayer.specs.OpenedOf.{records_for}
 use Rattle.codec.specs.Cell.{cells_of}
 use Rattle.reader.specs.Laws.Standing.{Standing, parse-stands}
+use Rattle.replayer.specs.Laws.OpenCode.{Opening, Refusing}
 
 -- the tasks
 pub starts_none : (spans : List Span) → starts_of spans 0 ≡ blank_tasks
@@ -57,17 +58,6 @@ pub begun_opened : (b : List ℕ) (p : Parsed) (l : Layout) → l ≡ layout_of 
 begun_opened b p l e q =
     let w : Laid p l = rw e (laid_read b p q) in
     rw (w.tasks, w.objects, w.fields, starts-same l.spans p.spans p.recording.tasks w.span)
-
--- what opening finds in the layout
-pub record Refusing (b memory : List ℕ) (number offset : ℕ) : Type 0 where
-  pub answer : refused_open number offset ≡ (open_of b memory).answer
-  pub records : 0 ≡ records_for (open_of b memory).answer.number (parse b)
-  pub kept : memory ≡ (open_of b memory).memory
-
-pub record Opening (b memory : List ℕ) (l : Layout) : Type 0 where
-  pub answer : record { number = 0; offset = 0; run = begun_of l } ≡ (open_of b memory).answer
-  pub records : l.records ≡ records_for (open_of b memory).answer.number (parse b)
-  pub values : starting_in l.fields l.objects b memory ≡ (open_of b memory).memory
 
 module _ (b memory : List ℕ) (l : Layout) (e : l ≡ layout_of (parse b)) where
   pub open_bytes : (l.number ≡ 0 → ⊥) → Refusing b memory l.number l.offset

@@ -23,6 +23,7 @@ use Rattle.pending.specs.Laws.Moved.{Shaped}
 use Rattle.replayer.specs.OpenOf.{start_of, starts_of, opened_run, on_parse, open_of}
 use Rattle.codec.specs.Cell.{width_of, cells_of}
 use Rattle.codec.specs.Laws.Cell.{cells_of_lem}
+use Rattle.replayer.specs.Laws.OpenOf.{AtStart, Opens}
 
 pub starts-length : (spans : List Span) (n : ℕ) → length (starts_of spans n) ≡ max_tasks
 unfolding starts_of
@@ -60,14 +61,6 @@ starts-done spans (suc n) t =
       ]
     ]
 
--- the run at the start of a recording
-pub record AtStart (b : List ℕ) (p : Parsed) : Type 0 where
-  pub shaped : Shaped (opened_run p)
-  pub sound : sound_of (opened_run p) (length b) ≡ true
-  pub task : (t : ℕ) → t < p.recording.tasks → task_at (opened_run p).runs t ≡ start_of (get_or p.spans t no_span)
-  pub done : (t : ℕ) → done_of (opened_run p).runs t ≡ 0
-  pub values : length p.recording.values ≡ cell_count (opened_run p)
-
 pub opened-stands : (b : List ℕ) (p : Parsed) → parse b ≡ read p → AtStart b p
 opened-stands b p e =
     let s : Standing b p = parse-stands b p e in
@@ -93,12 +86,6 @@ pub open_accepts : (b memory : List ℕ) (p : Parsed) → parse b ≡ read p →
     → open_of b memory ≡ record { answer = record { number = 0; offset = 0; run = opened_run p }; memory = p.recording.values }
 unfolding open_of on_parse
 open_accepts b memory p e h = rw (e, eq-eqb (length memory) (cells_of p.recording.fields (length p.recording.owners)) h)
-
--- and only then
-pub record Opens (b memory : List ℕ) : Type 0 where
-  pub parsed : Parsed
-  pub reads : parse b ≡ read parsed
-  pub entries : length memory ≡ cell_count (opened_run parsed)
 
 pub open_accepted : (b memory : List ℕ) → (open_of b memory).answer.number ≡ 0 → Opens b memory
 unfolding open_of on_parse

@@ -6,12 +6,7 @@ use Rattle.entries.specs.Records.{records_in}
 use Rattle.reader.specs.Parse.{Parsed, parse}
 use Rattle.replayer.specs.OpenOf.{open_of}
 use Rattle.replayer.specs.OpenedOf.{records_for, opened_of}
-
--- number, offset and run on any bytes are those of the opening before F-5
-pub record AsBefore (b memory : List ℕ) : Type 0 where
-  pub number : (opened_of b memory).number ≡ (open_of b memory).answer.number
-  pub offset : (opened_of b memory).offset ≡ (open_of b memory).answer.offset
-  pub run : (opened_of b memory).run ≡ (open_of b memory).answer.run
+use Rattle.replayer.specs.Laws.OpenedOf.{AsBefore}
 
 pub as_before : (b memory : List ℕ) → AsBefore b memory
 as_before b memory = record { number = refl; offset = refl; run = refl }

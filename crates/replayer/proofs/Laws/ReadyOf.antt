@@ -10,11 +10,7 @@ use Rattle.pending.proofs.Laws.Sound.{sound_facts}
 use Rattle.replayer.specs.ReadyOf.{is_ready, ready_of}
 use Rattle.replayer.specs.Word.{word_of, has_bit, count_of, lowest_in, ready_count, lowest_ready}
 use Rattle.replayer.proofs.Laws.Word.{word-bit, word_above, word_count, word-lowest}
-
--- t is the index of the lowest of the n tests from i on that passes; or it is k, and none passes
-pub data LowestIs (k : ℕ) (f : ℕ → Bool) (i n t : ℕ) : Type 0 where
-  ready : t < n → f (i + t) ≡ true → ((s : ℕ) → s < t → f (i + s) ≡ false) → LowestIs k f i n t
-  nowhere : t ≡ k → ((s : ℕ) → s < n → f (i + s) ≡ false) → LowestIs k f i n t
+use Rattle.replayer.specs.Laws.ReadyOf.{LowestIs, ReadySet, nowhere, ready}
 
 -- one more test in front
 earlier : (f : ℕ → Bool) (i n : ℕ) → f i ≡ false → ((s : ℕ) → s < n → f (suc i + s) ≡ false) → (s : ℕ) → s < suc n → f (i + s) ≡ false
@@ -33,13 +29,6 @@ lowest-is (suc k) f i (suc n) h = elim (split (f i)) [
   | passes p ↦ rw p (ready (omega arith) (rw add-zero p) (λ s g. absurd (omega arith)))
   | fails p ↦ rw p (lowest-more k f i n (lowest_in k f (suc i) n) p (lowest-is k f (suc i) n (omega arith)))
 ]
-
-pub record ReadySet (r : Run) (b : List ℕ) : Type 0 where
-  pub number : (ready_of r b).number ≡ 0
-  pub bit : (t : ℕ) → t < r.tasks → has_bit (ready_of r b).word t ≡ is_ready r b t
-  pub above : (t : ℕ) → r.tasks ≤ t → has_bit (ready_of r b).word t ≡ false
-  pub count : ready_count (ready_of r b).word ≡ count_of (is_ready r b) 0 r.tasks
-  pub lowest : LowestIs max_tasks (is_ready r b) 0 r.tasks (lowest_ready (ready_of r b).word)
 
 word_facts : (f : ℕ → Bool) (n t : ℕ) → t < n → has_bit (word_of f 0 n) t ≡ f t
 word_facts f n t h = let e : 0 + t ≡ t = omega arith in rw e at (word-bit f 0 n t h)

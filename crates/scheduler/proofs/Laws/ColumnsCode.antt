@@ -10,7 +10,8 @@ use Rattle.scheduler.specs.declared.columns.Columns.{Columns}
 use Rattle.scheduler.specs.Laws.Columns.{run_of, place_of, columns_of}
 use Rattle.scheduler.proofs.Laws.Columns.{columns_back, columns_shaped, columns_task, columns_moved}
 use Rattle.pending.proofs.Laws.Each.{each-length}
-use Rattle.scheduler.proofs.Laws.Lowest.{IsNext, Behind, behind}
+use Rattle.scheduler.specs.Laws.Lowest.{IsNext, Behind}
+use Rattle.scheduler.proofs.Laws.Lowest.{behind}
 use Rattle.pending.specs.Laws.Moved.{Shaped}
 use Rattle.pending.specs.Run.{done_of, moved_of}
 use Rattle.pending.specs.Sound.{sound_of}

@@ -14,15 +14,17 @@ use Rattle.pending.specs.declared.Run.{Run}
 use Rattle.scheduler.specs.Finish.{Play, word_at, task_next, goes_on, onward, played_of, left_in, left_over, finish_of, tasks_in}
 use Rattle.pending.specs.Laws.Moved.{Shaped}
 use Rattle.pending.proofs.Laws.Moved.{moved-own, moved_other, moved-tasks}
-use Rattle.replayer.proofs.Laws.ReadyOf.{ready, nowhere, ready-word}
+use Rattle.replayer.specs.Laws.ReadyOf.{ready, nowhere}
+use Rattle.replayer.proofs.Laws.ReadyOf.{ready-word}
 use Rattle.replayer.specs.ReadyOf.{is_ready, ready_of}
 use Rattle.pending.specs.Run.{task_at, moved_of, cell_count}
 use Rattle.pending.specs.Sound.{sound_of}
 use Rattle.pending.proofs.Laws.Sound.{sound_facts}
-use Rattle.replayer.proofs.Laws.StepOf.{Differs, taken, turned, differing, step_goes, step_keeps}
+use Rattle.replayer.specs.Laws.StepOf.{Differs, taken, turned, differing}
+use Rattle.replayer.proofs.Laws.StepOf.{step_goes, step_keeps}
 use Rattle.replayer.specs.Word.{word_of, has_bit}
 use Rattle.replayer.proofs.Laws.Word.{zero_bit}
-use Rattle.scheduler.specs.Laws.Finish.{Playing}
+use Rattle.scheduler.specs.Laws.Finish.{Ended, Ends, Onward, Playing, none-ready, stopped}
 
 -- if no test passes, the word is 0
 word_zero : (f : ℕ → Bool) (i n : ℕ) → ((s : ℕ) → s < n → f (i + s) ≡ false) → word_of f i n ≡ 0
@@ -53,16 +55,6 @@ left_less r t next (suc n) s k l h = elim (ℕ_discrete n t) [
   | yes e ↦ rw (e, moved-own r t next s k, left-same r t next t (omega arith)) (omega arith)
   | no e ↦ rw (moved_other r t next n e) (omega (arith, left_less r t next n s k l (omega (arith, e))))
 ]
-
--- one more step of a play
-pub record Onward (b : List ℕ) (x : Play) : Type 0 where
-  pub playing : Playing b (onward b x)
-  pub fewer : left_over (onward b x).run + 1 ≡ left_over x.run
-
--- a play that does not go on: no task is ready, or the step of the lowest ready one gives 19
-pub data Ends (b : List ℕ) (x : Play) : Type 0 where
-  none-ready : word_at b x ≡ 0 → Ends b x
-  stopped : (op : Op) (next : ℕ) → Differs x.run b x.memory (task_next b x) op next → Ends b x
 
 module _ (b : List ℕ) (x : Play) (w : Playing b x) where
   kept : Playing b (onward b x)
@@ -122,11 +114,6 @@ stays_put (suc n) b x z = rw z
 
 pub finish_end : (b : List ℕ) (x : Play) → goes_on b x ≡ false → finish_of b x ≡ x
 finish_end b x z = stays_put (left_over x.run) b x z
-
--- the number of steps is enough: at the end the play does not go on
-pub record Ended (b : List ℕ) (x : Play) : Type 0 where
-  pub playing : Playing b x
-  pub over : goes_on b x ≡ false
 
 plays-out : (n : ℕ) (b : List ℕ) (x : Play) → Playing b x → left_over x.run ≤ n → Ended b (played_of n b x)
 unfolding played_of

@@ -20,7 +20,8 @@ use Rattle.scheduler.proofs.Laws.Finish.{left_less, ready-word_zero}
 use Rattle.pending.specs.Laws.Moved.{Shaped}
 use Rattle.pending.proofs.Laws.Moved.{moved-tasks, moved_sound}
 use Rattle.pending.proofs.Laws.Next.{next-within}
-use Rattle.replayer.proofs.Laws.ReadyOf.{LowestIs, ready, nowhere, ready-word}
+use Rattle.replayer.specs.Laws.ReadyOf.{LowestIs, ready, nowhere}
+use Rattle.replayer.proofs.Laws.ReadyOf.{ready-word}
 use Rattle.pending.specs.Run.{task_at, moved_of}
 use Rattle.pending.specs.Sound.{sound_of}
 use Rattle.codec.specs.Number.{differs}
@@ -32,7 +33,7 @@ use Rattle.scheduler.specs.Laws.Visit.{Noted}
 use Rattle.scheduler.proofs.Laws.Visit.{noted_onward}
 use Rattle.replayer.specs.Word.{has_bit, lowest_in, lowest_ready}
 use Rattle.codec.specs.Cell.{op_cell}
-use Rattle.scheduler.specs.Laws.Lowest.{after_of, lowest_of}
+use Rattle.scheduler.specs.Laws.Lowest.{Behind, IsNext, Standing, SteppedTo, after_of, goes_on_lem, lowest_of, stops}
 
 -- there is only one lowest
 lowest-same : (f : ℕ → Bool) (n t u : ℕ) → LowestIs max_tasks f 0 n u → t < n → f t ≡ true → ((s : ℕ) → s < t → f s ≡ false) → u ≡ t
@@ -56,26 +57,6 @@ no_lowest = refl
 pub ready-left : (r : Run) (b : List ℕ) (t : ℕ) → is_ready r b t ≡ true → (task_at r.runs t).done < (task_at r.runs t).count
 unfolding is_ready
 ready-left r b t q = ltb-true _ _ (both_pass (has_left r t) _ q).0
-
--- the task that is stepped next, and its access
-pub record IsNext (r : Run) (b : List ℕ) (t : ℕ) (op : Op) (next : ℕ) : Type 0 where
-  pub below : t < r.tasks
-  pub few : t < max_tasks
-  pub left : has_left r t ≡ true
-  pub goes : (ready_of r b).word ≡ 0 → ⊥
-  pub first : next_task b r ≡ t
-  pub opens : next_of r b t ≡ Open op next
-
--- the run after its step
-pub record SteppedTo (r : Run) (b : List ℕ) (t : ℕ) (op : Op) (q : Run) : Type 0 where
-  pub next : ℕ
-  pub is : IsNext r b t op next
-  pub run : q ≡ moved_of r t next
-
--- there is such a task, or no task is ready
-pub data Standing (r : Run) (b : List ℕ) : Type 0 where
-  goes_on_lem : (t : ℕ) (op : Op) (next : ℕ) → IsNext r b t op next → Standing r b
-  stops : (ready_of r b).word ≡ 0 → Standing r b
 
 module _ (r : Run) (b : List ℕ) where
   pub lowest-next : (t : ℕ) (op : Op) (next : ℕ) → IsNext r b t op next → (lowest_of r b ≡ Ready t op) × (after_of r b ≡ moved_of r t next)
@@ -131,12 +112,6 @@ module _ (r : Run) (b : List ℕ) where
       | goes_on_lem t op next w ↦ absurd (let g : Stopped ≡ Ready t op = sym h ∙ e ∙ (lowest-next t op next w).0 in let o : ◌≡◌ {A = ℕ} 0 1 = cc in omega arith)
       | stops z ↦ (z, f ∙ (lowest-none z).1)
     ]
-
--- the run after that access: still sound, with one access fewer
-pub record Behind (r : Run) (b : List ℕ) (t next : ℕ) : Type 0 where
-  pub sound : sound_of (moved_of r t next) (length b) ≡ true
-  pub fewer : left_over (moved_of r t next) + 1 ≡ left_over r
-  pub noted : (scans ats : List ℕ) → Noted r b scans ats → Noted (moved_of r t next) b scans ats
 
 pub behind : (r : Run) (b : List ℕ) (t : ℕ) (op : Op) (next : ℕ) → sound_of r (length b) ≡ true → Shaped r → IsNext r b t op next → Behind r b t next
 behind r b t op next s h w =

@@ -10,7 +10,8 @@ use Rattle.pending.specs.declared.next.Next.TheVariants.{Open}
 use Rattle.scheduler.specs.Finish.{Play, word_at, task_next, takes_step, stepped_by, goes_on, onward, played_of, left_over, finish_of}
 use Rattle.scheduler.specs.Laws.Finish.{Playing}
 use Rattle.scheduler.proofs.Laws.Finish.{goes_onward, none_stops}
-use Rattle.scheduler.proofs.Laws.Lowest.{IsNext, goes_on_lem, stops, standing, behind, step-agrees, step-differs}
+use Rattle.scheduler.specs.Laws.Lowest.{IsNext, goes_on_lem, stops}
+use Rattle.scheduler.proofs.Laws.Lowest.{standing, behind, step-agrees, step-differs}
 use Rattle.pending.specs.Laws.Moved.{Shaped}
 use Rattle.pending.proofs.Laws.Moved.{moved_shaped}
 use Rattle.pending.specs.Next.{next_of}
@@ -18,10 +19,12 @@ use Rattle.replayer.specs.ReadyOf.{ready_of}
 use Rattle.pending.specs.Run.{moved_of}
 use Rattle.scheduler.specs.Schedule.{next_task, behind_of, schedule_from, schedule_of, ran_by, settled_of, played_by}
 use Rattle.pending.specs.Sound.{sound_of}
-use Rattle.replayer.proofs.Laws.StepOf.{taken, turned, differing, step_goes, step_keeps}
+use Rattle.replayer.specs.Laws.StepOf.{taken, turned, differing}
+use Rattle.replayer.proofs.Laws.StepOf.{step_goes, step_keeps}
 use Rattle.replayer.specs.Memory.{agrees}
 use Rattle.replayer.specs.StepOf.{step_of}
 use Rattle.codec.specs.Cell.{op_cell}
+use Rattle.scheduler.specs.Laws.Schedule.{AllTaken, StepTaken, StepsTo}
 
 -- no task is ready, or the next one is stepped
 pub schedule_stops : (n : ℕ) (b : List ℕ) (r : Run) → (ready_of r b).word ≡ 0 → schedule_from n b r ≡ []
@@ -67,21 +70,10 @@ schedule_within b (suc n) r s h l = elim (standing r b s) [
 pub schedule_enough : (b : List ℕ) (r : Run) (n : ℕ) → sound_of r (length b) ≡ true → Shaped r → left_over r ≤ n → schedule_from n b r ≡ schedule_of b r
 schedule_enough b r n s h l = schedule_within b n r s h (omega (arith, schedule_short b r))
 
--- each step of a list is taken in its place: its number is 0
-unfoldable pub AllTaken : List ℕ → Play → List ℕ → Type 0
-AllTaken b x [] = Unit {0}
-AllTaken b x (t ∷ ts) = ((step_of x.run b x.memory t).answer.number ≡ 0) × AllTaken b (stepped_by b x t) ts
-
 -- a play that goes on takes the step of the next task
 taken-first : (b : List ℕ) (x : Play) (t : ℕ) (ts : List ℕ) → takes_step b x t ≡ true → played_by b x (t ∷ ts) ≡ played_by b (stepped_by b x t) ts
 unfolding played_by
 taken-first b x t ts z = rw z
-
--- a play is a list of taken steps
-pub record StepsTo (b : List ℕ) (x y : Play) : Type 0 where
-  pub steps : List ℕ
-  pub all : AllTaken b x steps
-  pub leads : played_by b x steps ≡ y
 
 played_steps : (n : ℕ) (b : List ℕ) (x : Play) → StepsTo b x (played_of n b x)
 unfolding played_of played_by onward AllTaken
@@ -92,15 +84,6 @@ played_steps (suc n) b x = elim (split (goes_on b x)) [
       let s = played_steps n b (onward b x) in
       rw z (record { steps = task_next b x ∷ s.steps; all = (eqb-true _ _ z, s.all); leads = taken-first b x (task_next b x) s.steps z ∙ s.leads })
 ]
-
--- the step of the next task is the play's own
-pub record StepTaken (b : List ℕ) (x : Play) (t next : ℕ) : Type 0 where
-  pub number : (step_of x.run b x.memory t).answer.number ≡ 0
-  pub run : moved_of x.run t next ≡ (stepped_by b x t).run
-  pub goes : goes_on b x ≡ true
-  pub takes : takes_step b x t ≡ true
-  pub same : onward b x ≡ stepped_by b x t
-  pub playing : Playing b (stepped_by b x t)
 
 pub step-taken : (b : List ℕ) (x : Play) → Playing b x → (t : ℕ) (op : Op) (next : ℕ) → IsNext x.run b t op next → agrees (op_cell x.run.fields op) op x.memory ≡ true → StepTaken b x t next
 unfolding onward

@@ -8,24 +8,14 @@ use Rattle.codec.specs.Store.{store}
 use Rattle.codec.specs.Laws.Store.{store-none, store-cons}
 use Rattle.replayer.specs.declared.ReadyWord.{ReadyWord}
 use Rattle.pending.specs.declared.Run.{Run}
-use Rattle.scheduler.proofs.Laws.Lowest.{IsNext}
+use Rattle.scheduler.specs.Laws.Lowest.{IsNext}
 use Rattle.replayer.proofs.Laws.ReadyOf.{ready-unsound}
 use Rattle.replayer.specs.ReadyOf.{ready_of}
 use Rattle.pending.specs.Run.{moved_of}
 use Rattle.scheduler.specs.Schedule.{schedule_from}
 use Rattle.scheduler.proofs.Laws.Schedule.{schedule_stops, schedule_goes}
 use Rattle.pending.specs.Sound.{sound_of}
-
--- a buffer and the run after n steps, compared with those at the start
-pub record Writing (b : List ℕ) (out₀ : List ℕ) (r₀ : Run) (out : List ℕ) (r : Run) (n : ℕ) : Type 0 where
-  pub within : n ≤ length out
-  pub long : length out ≡ length out₀
-  pub count : n + length (schedule_from (length out - n) b r) ≡ length (schedule_from (length out₀) b r₀)
-  pub whole : store out n (schedule_from (length out - n) b r) ≡ store out₀ 0 (schedule_from (length out₀) b r₀)
-
--- what the call answers
-abbrev pub Wrote : List ℕ → List ℕ → Run → List ℕ → ℕ → Type 0
-Wrote b out₀ r₀ out n = (n ≡ length (schedule_from (length out₀) b r₀)) × (out ≡ store out₀ 0 (schedule_from (length out₀) b r₀))
+use Rattle.scheduler.specs.Laws.ScheduleCode.{Writing, Wrote}
 
 -- an unsound run
 pub wrote_none : (b out : List ℕ) (r : Run) → sound_of r (length b) ≡ false → Wrote b out r out 0

@@ -9,11 +9,13 @@ use Rattle.pending.specs.Laws.Moved.{Shaped}
 use Rattle.pending.proofs.Laws.Moved.{moved_shaped}
 use Rattle.pending.specs.Run.{moved_of}
 use Rattle.pending.specs.Sound.{sound_of}
-use Rattle.replayer.proofs.Laws.Along.{Along, along_moved}
+use Rattle.replayer.specs.Laws.Along.{Along}
+use Rattle.replayer.proofs.Laws.Along.{along_moved}
 use Rattle.replayer.specs.ReadyOf.{ready_of}
 use Rattle.scheduler.specs.Finish.{left_over}
 use Rattle.scheduler.specs.Schedule.{schedule_of, ran_by, settled_of}
-use Rattle.scheduler.proofs.Laws.Lowest.{IsNext, goes_on_lem, stops, standing, behind}
+use Rattle.scheduler.specs.Laws.Lowest.{IsNext, goes_on_lem, stops}
+use Rattle.scheduler.proofs.Laws.Lowest.{standing, behind}
 use Rattle.scheduler.proofs.Laws.Schedule.{schedule_stops, schedule_next, ran_one}
 
 -- no task is ready: the order is empty

@@ -27,12 +27,7 @@ use Rattle.pending.specs.FirstUnmet.{Ahead}
 use Rattle.pending.proofs.Laws.FirstUnmet.{done_all, ahead_later, ahead-rest, ahead-onward}
 use Rattle.replayer.specs.ReadyOf.{is_ready}
 use Rattle.pending.specs.Run.{task_at, limits_of, moved_of}
-use Rattle.scheduler.specs.Laws.Visit.{Note, Noted, Visited}
-
--- a place from which a task's group may be looked at: what is found from there is found from the group's start, and its note is the task's
-pub record Resumed (m : Limits) (b dones : List ℕ) (x : TaskRun) (from : ℕ) : Type 0 where
-  pub looks : (n : Next) → Looks dones from (group_at m b from x.end) n → Looks dones x.place (group_at m b x.place x.end) n
-  pub note : (scan at : ℕ) → (0 < at → Ahead m b dones from x.end scan at) → Note m b dones x scan at
+use Rattle.scheduler.specs.Laws.Visit.{Note, Noted, Resumed, Visited}
 
 pub resumed_first : (m : Limits) (b dones : List ℕ) (x : TaskRun) → Resumed m b dones x x.place
 resumed_first m b dones x = record { looks = λ n k. k; note = λ scan at k h. k (omega (arith, h)) }

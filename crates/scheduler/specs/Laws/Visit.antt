@@ -13,6 +13,7 @@ use Rattle.pending.specs.declared.TaskRun.{TaskRun}
 use Rattle.pending.specs.declared.next.Next.{Next}
 use Rattle.pending.specs.declared.next.Next.TheVariants.{Open}
 use Rattle.pending.specs.Dones.{dones_of}
+use Rattle.pending.specs.Look.{group_at, Looks}
 use Rattle.pending.specs.Next.{next_of, is_open}
 use Rattle.pending.specs.FirstUnmet.{Ahead}
 use Rattle.replayer.specs.ReadyOf.{is_ready}
@@ -34,3 +35,8 @@ pub record Visited (r : Run) (b : List ℕ) (t : ℕ) (scans ats : List ℕ) (n 
   pub ready : is_ready r b t ≡ is_open n
   pub opens : (op : Op) (next : ℕ) → n ≡ Open op next → next_of r b t ≡ Open op next
   pub noted : Noted r b scans ats
+
+-- a place from which a task's group may be looked at: what is found from there is found from the group's start, and its note is the task's
+pub record Resumed (m : Limits) (b dones : List ℕ) (x : TaskRun) (from : ℕ) : Type 0 where
+  pub looks : (n : Next) → Looks dones from (group_at m b from x.end) n → Looks dones x.place (group_at m b x.place x.end) n
+  pub note : (scan at : ℕ) → (0 < at → Ahead m b dones from x.end scan at) → Note m b dones x scan at

@@ -6,7 +6,7 @@ use Rattle.std.proofs.Math.ListN.{length-set}
 use Rattle.std.proofs.Math.Seq.{get_or-set_same, get_or-set_other}
 use Rattle.codec.specs.Limit.{max_tasks, max_cells}
 use Rattle.tracker.specs.State.{done_of, seen_of, took_of, cell_count, locality_of, owned}
-use Rattle.tracker.proofs.Laws.State.{Shaped}
+use Rattle.tracker.specs.Laws.State.{Shaped}
 use Rattle.tracker.specs.Row.{row_at}
 use Rattle.tracker.specs.Next.{locality_after, effect_of, number_now, state_after}
 use Rattle.tracker.specs.declared.CellRecord.{CellRecord}

@@ -10,15 +10,8 @@ use Rattle.history.specs.History.{History, count, At, here, there}
 use Rattle.history.proofs.Laws.History.{at-nil}
 use Rattle.history.specs.Closed.{In, Closed}
 use Rattle.history.proofs.Laws.Closed.{closed_before}
-use Rattle.history.proofs.Laws.Sound.{Follows}
-
--- closed counts that have reached p contain every entry whose act passes the test
-pub record Covers (h : History) (p : Position) (test : Act → Bool) : Type 0 where
-  pub has : {d : ℕ → ℕ} {e : Entry} {g : History} → Closed d h → p.number ≤ d p.task → At e g h → test e.act ≡ true → In d e g
-
--- closed counts that contain the newest entry e have reached p
-pub record Awaits (e : Entry) (h : History) (p : Position) : Type 0 where
-  pub reached : {d : ℕ → ℕ} → Closed d (e ∷ h) → In d e h → p.number ≤ d p.task
+use Rattle.history.specs.Laws.Sound.{Follows}
+use Rattle.tracker.specs.Laws.Covers.{Awaits, Covers}
 
 pub covers_none : (p : Position) (test : Act → Bool) → Covers [] p test
 covers_none p test = record { has = λ c n a t. absurd (at-nil a) }

@@ -11,36 +11,29 @@ use Rattle.history.specs.Entry.{Act, Entry, touches, writes}
 use Rattle.history.proofs.Laws.Entry.{writes-touches}
 use Rattle.history.specs.History.{History, count}
 use Rattle.history.proofs.Laws.History.{at_lt}
-use Rattle.history.proofs.Laws.Sound.{Follows}
+use Rattle.history.specs.Laws.Sound.{Follows}
 use Rattle.tracker.specs.State.{done_of, seen_of, done_at, took_at}
-use Rattle.tracker.proofs.Laws.View.{View, one, two, three, four, five, six, seven, eight, nine, ten}
+use Rattle.tracker.specs.Laws.View.{View, one, two, three, four, five, six, seven, eight, nine, ten}
 use Rattle.tracker.specs.Orderings.{orderings_of}
 use Rattle.tracker.proofs.Laws.Written.{every_has}
 use Rattle.tracker.specs.Next.{locality_after, unchanged, effect_of}
-use Rattle.tracker.proofs.Laws.Covers.{Awaits, covers_more, covers_own, follows_covered, follows_fewer, awaits_own}
-use Rattle.tracker.proofs.Laws.Covered.{Covered, write_exclusive, read_exclusive, read_shared}
-use Rattle.tracker.proofs.Laws.Moves.{Moves, seen-stays, seen_moves, last-stays, last_moves, done_covers, shared_stays}
-use Rattle.tracker.proofs.Laws.Effects.{Leaves, moves, plain_moves}
-use Rattle.tracker.proofs.Laws.Invariant.{Invariant}
+use Rattle.tracker.specs.Laws.Covers.{Awaits}
+use Rattle.tracker.proofs.Laws.Covers.{covers_more, covers_own, follows_covered, follows_fewer, awaits_own}
+use Rattle.tracker.specs.Laws.Covered.{Covered, write_exclusive, read_exclusive, read_shared}
+use Rattle.tracker.specs.Laws.Moves.{Moves, seen-stays, seen_moves, last-stays, last_moves}
+use Rattle.tracker.proofs.Laws.Moves.{done_covers, shared_stays}
+use Rattle.tracker.specs.Laws.Effects.{Leaves}
+use Rattle.tracker.proofs.Laws.Effects.{moves, plain_moves}
+use Rattle.tracker.specs.Laws.Invariant.{Invariant}
 use Rattle.tracker.specs.declared.Locality.{Locality}
 use Rattle.tracker.specs.declared.Locality.TheVariants.{WriteExclusive}
 use Rattle.tracker.specs.declared.Row.{Row}
 use Rattle.tracker.specs.declared.State.{State}
-
--- what an access to a cell conflicts with: a write with every access to it, a read with its writes
-abbrev pub conflicting : Bool → ℕ → Act → Bool
-conflicting true cell = touches cell
-conflicting false cell = writes cell
+use Rattle.tracker.specs.Laws.EachRow.{RowKeeps, conflicting}
 
 follows_any : {e : Entry} {h : History} (write : Bool) (cell : ℕ) → Follows e h (touches cell) → Follows e h (conflicting write cell)
 follows_any true cell f = f
 follows_any false cell f = follows_fewer (writes-touches cell) f
-
--- what is proved for each row; `l` is the cell's new state
-pub record RowKeeps (e : Entry) (h : History) (s after : State) (cell : ℕ) (write : Bool) (l : Locality) : Type 0 where
-  pub follows : Follows e h (conflicting write cell)
-  pub moves : Moves e h s after
-  pub covered : Covered (e ∷ h) after cell l
 
 module _ (e : Entry) (h : History) (s after : State) (cell : ℕ) (i : Invariant s h) (low : e.task < s.tasks) where
   -- Done before the access

@@ -7,22 +7,13 @@ use Rattle.codec.specs.Limit.{max_tasks}
 use Rattle.history.specs.Entry.{Entry}
 use Rattle.history.specs.History.{History, count}
 use Rattle.tracker.specs.State.{done_of, seen_of, took_of, locality_of}
-use Rattle.tracker.proofs.Laws.State.{Shaped}
+use Rattle.tracker.specs.Laws.State.{Shaped}
 use Rattle.tracker.specs.Row.{row_at}
 use Rattle.tracker.specs.Next.{Effect, unchanged, effect_of, state_after}
 use Rattle.tracker.proofs.Laws.After.{next-tasks, next-done, next-seen, next-took, next_last, other_done, other_seen, other_took}
-use Rattle.tracker.proofs.Laws.Moves.{SeenMoves, seen-stays, LastMoves, last-stays, Moves}
+use Rattle.tracker.specs.Laws.Moves.{SeenMoves, seen-stays, LastMoves, last-stays, Moves}
 use Rattle.tracker.specs.declared.State.{State}
-
-pub record Leaves (s : State) (task : ℕ) (effect : Effect) (after : State) : Type 0 where
-  pub tasks : after.tasks ≡ s.tasks
-  pub done : done_of after task ≡ done_of s task + 1
-  pub seen : seen_of after task ≡ effect.seen
-  pub took : took_of after task ≡ effect.took
-  pub last : after.last ≡ effect.last
-  pub other_done : (other : ℕ) → (other ≡ task → ⊥) → done_of after other ≡ done_of s other
-  pub other_seen : (other : ℕ) → (other ≡ task → ⊥) → seen_of after other ≡ seen_of s other
-  pub other_took : (other : ℕ) → (other ≡ task → ⊥) → took_of after other ≡ took_of s other
+use Rattle.tracker.specs.Laws.Effects.{Leaves}
 
 pub next_leaves : (s : State) (task cell : ℕ) (write : Bool) → Shaped s → task < max_tasks
     → Leaves s task (effect_of (row_at s task cell write) s task (locality_of s cell)) (state_after s task cell write)

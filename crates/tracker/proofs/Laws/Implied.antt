@@ -11,7 +11,7 @@ use Rattle.history.specs.History.{History, count, here}
 use Rattle.history.specs.Closed.{Met}
 use Rattle.tracker.specs.Orderings.{written}
 use Rattle.tracker.proofs.Laws.Written.{written_in, written_keeps}
-use Rattle.tracker.proofs.Laws.Covers.{Awaits}
+use Rattle.tracker.specs.Laws.Covers.{Awaits}
 
 -- a list is met if each of its orderings is
 pub met-from : (d : ℕ → ℕ) (l : List Position) → ((p : Position) → Memᴰ p l → p.number ≤ d p.task) → Met d l

@@ -4,26 +4,23 @@ use Rattle.std.proofs.Common.{arith, eqb-true, get_or-set_same, get_or-set_other
 use Rattle.std.proofs.lemmas.Bool.{eqb-false}
 use Rattle.codec.specs.Limit.{max_accesses}
 use Rattle.tracker.specs.State.{done_of, seen_of, cell_count, locality_of, owned}
-use Rattle.tracker.proofs.Laws.State.{Shaped}
+use Rattle.tracker.specs.Laws.State.{Shaped}
 use Rattle.tracker.specs.Row.{row_at}
-use Rattle.tracker.proofs.Laws.View.{View, one, two, three, four, five, six, seven, eight, nine, ten, view}
+use Rattle.tracker.specs.Laws.View.{View, one, two, three, four, five, six, seven, eight, nine, ten}
+use Rattle.tracker.proofs.Laws.View.{view}
 use Rattle.tracker.specs.Next.{locality_after, Effect, unchanged, effect_of, number_now, stepped, state_after}
 use Rattle.tracker.specs.Laws.Counters.{counters_of}
 use Rattle.tracker.specs.Laws.Plan.{Admits}
 use Rattle.tracker.proofs.Laws.Sum.{sum_rises, sum_bound}
 use Rattle.tracker.specs.Sound.{sound_of}
-use Rattle.tracker.proofs.Laws.Facts.{Sound, LastBounds, TaskBounds, CellBounds, writer_bounds, reader_bounds, shared_bounds, sound_facts, sound_test, cells_fit}
+use Rattle.tracker.specs.Laws.Facts.{Sound, LastBounds, TaskBounds, CellBounds}
+use Rattle.tracker.proofs.Laws.Facts.{writer_bounds, reader_bounds, shared_bounds, sound_facts, sound_test, cells_fit}
 use Rattle.tracker.specs.declared.Locality.{Locality}
 use Rattle.tracker.specs.declared.Locality.TheVariants.{WriteExclusive}
 use Rattle.tracker.specs.declared.CellRecord.{CellRecord}
 use Rattle.tracker.specs.declared.Row.{Row}
 use Rattle.tracker.specs.declared.State.{State}
-
--- what the number table requires of an access besides a sound state: 5, 6 and 8
-pub record Accepts (s : State) (task cell : ℕ) : Type 0 where
-  pub task_low : task < s.tasks
-  pub cell_low : cell < cell_count s
-  pub more : done_of s task < max_accesses
+use Rattle.tracker.specs.Laws.Kept.{Accepts, Keeps}
 
 -- no index and no number of an accepted access is out of range
 pub sound_admits : (s : State) (task cell : ℕ) → Sound s → Accepts s task cell → Admits (counters_of s) (locality_of s cell) task
@@ -50,15 +47,6 @@ cell_rises l tasks g k h f = record {
   share_low = omega (arith, f.share_low);
   share_some = f.share_some;
 }
-
--- what a row has to keep
-record Keeps (s : State) (task : ℕ) (l : Locality) (e : Effect) : Type 0 where
-  pub rises : s.shares ≤ e.shares
-  pub by_one : e.shares ≤ s.shares + 1
-  pub seen : e.seen ≤ e.shares
-  pub took : e.took ≤ number_now s task
-  pub last : LastBounds e.last s.tasks e.shares (set s.done task (number_now s task))
-  pub cell : CellBounds l s.tasks e.shares
 
 module _ (s : State) (task : ℕ) (shaped : Shaped s) (sound : Sound s) (low : task < s.tasks) where
   in_done : task < length s.done

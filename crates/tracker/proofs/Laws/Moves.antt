@@ -5,31 +5,15 @@ use Rattle.std.proofs.Common.{arith}
 use Rattle.history.specs.Entry.{Act, Entry, touches, writes}
 use Rattle.history.proofs.Laws.Entry.{untouched_unwritten}
 use Rattle.history.specs.History.{History, count}
-use Rattle.history.proofs.Laws.Sound.{Follows}
+use Rattle.history.specs.Laws.Sound.{Follows}
 use Rattle.tracker.specs.State.{done_of, seen_of, took_of, done_at, took_at}
-use Rattle.tracker.proofs.Laws.Covers.{Covers, Awaits, covers_more, covers_own, follows_covered}
-use Rattle.tracker.proofs.Laws.Covered.{Covered, write_exclusive, read_exclusive, read_shared}
+use Rattle.tracker.specs.Laws.Covers.{Covers, Awaits}
+use Rattle.tracker.proofs.Laws.Covers.{covers_more, covers_own, follows_covered}
+use Rattle.tracker.specs.Laws.Covered.{Covered, write_exclusive, read_exclusive, read_shared}
 use Rattle.tracker.specs.declared.Locality.{Locality}
 use Rattle.tracker.specs.declared.Locality.TheVariants.{ReadShared}
 use Rattle.tracker.specs.declared.State.{State}
-
--- Seen of a task changes only if it is the accessing task and the access is ordered after Last.
-pub data SeenMoves (e : Entry) (h : History) (s after : State) (task : ℕ) : Type 0 where
-  seen-stays : seen_of after task ≡ seen_of s task → SeenMoves e h s after task
-  seen_moves : task ≡ e.task → Awaits e h s.last → SeenMoves e h s after task
-
--- Last changes only to the access itself, which is then ordered after the Last before it.
-pub data LastMoves (e : Entry) (h : History) (s after : State) : Type 0 where
-  last-stays : after.last ≡ s.last → LastMoves e h s after
-  last_moves : after.last.task ≡ e.task → count e.task h < after.last.number → Awaits e h s.last → LastMoves e h s after
-
-pub record Moves (e : Entry) (h : History) (s after : State) : Type 0 where
-  pub tasks : after.tasks ≡ s.tasks
-  pub done : (task : ℕ) → done_of s task ≤ done_of after task
-  pub done_own : count e.task h < done_of after e.task
-  pub took : (task : ℕ) → took_of s task ≤ took_of after task
-  pub seen : (task : ℕ) → SeenMoves e h s after task
-  pub last : LastMoves e h s after
+use Rattle.tracker.specs.Laws.Moves.{Moves, last-stays, last_moves, seen-stays, seen_moves}
 
 -- the accessing task's Done covers everything its access comes after, and the access itself
 pub done_covers : {e : Entry} {h : History} {s after : State} {test : Act → Bool} → Moves e h s after → Follows e h test

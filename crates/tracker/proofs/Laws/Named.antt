@@ -9,18 +9,12 @@ use Rattle.tracker.specs.State.{done_of, done_at, took_at, cell_count, locality_
 use Rattle.tracker.specs.Row.{row_at}
 use Rattle.tracker.specs.Orderings.{orderings_of, every_done, written_of}
 use Rattle.tracker.proofs.Laws.Written.{written_in, written_keeps, every_in, every_has}
-use Rattle.tracker.proofs.Laws.Facts.{Sound}
+use Rattle.tracker.specs.Laws.Facts.{Sound}
 use Rattle.tracker.specs.declared.Locality.{Locality}
 use Rattle.tracker.specs.declared.Row.{Row}
 use Rattle.tracker.specs.declared.Row.TheVariants.{One, Two, Three, Four, Five, Six, Seven, Eight, Nine, Ten}
 use Rattle.tracker.specs.declared.State.{State}
-
--- an ordering points at an access that another task has made
-pub record Names (s : State) (task : ℕ) (p : Position) : Type 0 where
-  pub task_low : p.task < s.tasks
-  pub other : p.task ≡ task → ⊥
-  pub some : 1 ≤ p.number
-  pub reached : p.number ≤ done_of s p.task
+use Rattle.tracker.specs.Laws.Named.{Names}
 
 module _ (s : State) (sound : Sound s) (l : Locality) (holder_low : holder_of l < s.tasks) where
   -- the same for an ordering of the table, written or not

@@ -11,7 +11,7 @@ use Rattle.history.specs.Entry.{Act, Entry, touches, writes, conflicts}
 use Rattle.history.specs.History.{History, count, At, here, there}
 use Rattle.history.proofs.Laws.History.{count-own, count-other}
 use Rattle.history.specs.Closed.{Met}
-use Rattle.history.proofs.Laws.Sound.{Follows}
+use Rattle.history.specs.Laws.Sound.{Follows}
 use Rattle.tracker.specs.State.{done_of, seen_of, cell_count, locality_of}
 use Rattle.tracker.specs.Row.{row_at}
 use Rattle.tracker.proofs.Laws.View.{view}
@@ -19,16 +19,18 @@ use Rattle.tracker.specs.Orderings.{orderings_of}
 use Rattle.tracker.specs.Next.{locality_after, state_after}
 use Rattle.tracker.proofs.Laws.After.{next-tasks, next_cells, next_shaped, next-done, next_locality, other_done, other_locality}
 use Rattle.tracker.proofs.Laws.Facts.{cells_fit}
-use Rattle.tracker.proofs.Laws.Kept.{Accepts, next_facts}
+use Rattle.tracker.specs.Laws.Kept.{Accepts}
+use Rattle.tracker.proofs.Laws.Kept.{next_facts}
 use Rattle.tracker.proofs.Laws.Named.{row_points}
 use Rattle.tracker.proofs.Laws.Covers.{follows_fewer}
 use Rattle.tracker.proofs.Laws.Implied.{met-from, full_implies_written, awaits_full}
-use Rattle.tracker.proofs.Laws.Covered.{Covered}
+use Rattle.tracker.specs.Laws.Covered.{Covered}
 use Rattle.tracker.proofs.Laws.Moves.{untouched_stays}
 use Rattle.tracker.proofs.Laws.Effects.{next_leaves}
-use Rattle.tracker.proofs.Laws.Invariant.{Invariant}
-use Rattle.tracker.proofs.Laws.EachRow.{conflicting, RowKeeps, row_keeps}
-use Rattle.tracker.proofs.Laws.Accesses.{act_of, tracked_entry}
+use Rattle.tracker.specs.Laws.Invariant.{Invariant}
+use Rattle.tracker.specs.Laws.EachRow.{conflicting, RowKeeps}
+use Rattle.tracker.proofs.Laws.EachRow.{row_keeps}
+use Rattle.tracker.specs.Laws.Accesses.{act_of, tracked_entry}
 use Rattle.tracker.specs.declared.State.{State}
 
 -- an access touches only its cell, writes only if it is a write, and conflicts by its sort

@@ -12,29 +12,15 @@ use Rattle.codec.specs.Cell.{width_of, cells_of, cell_of, object_at}
 use Rattle.codec.specs.Laws.Cell.{width_some, cell_below, cells_few, object-is, object_back}
 use Rattle.codec.specs.Limit.{max_tasks, max_objects, max_fields, max_cells}
 use Rattle.tracker.specs.State.{owned, done_of, cell_count, locality_of, holder_of}
-use Rattle.tracker.proofs.Laws.State.{Shaped}
+use Rattle.tracker.specs.Laws.State.{Shaped}
 use Rattle.tracker.specs.Sound.{sound_of}
-use Rattle.tracker.proofs.Laws.Facts.{Sound, TaskBounds, writer_bounds, sound_test}
+use Rattle.tracker.specs.Laws.Facts.{Sound, TaskBounds}
+use Rattle.tracker.proofs.Laws.Facts.{writer_bounds, sound_test}
 use Rattle.tracker.specs.declared.Locality.TheVariants.{WriteExclusive}
 use Rattle.tracker.specs.declared.CellRecord.{CellRecord}
 use Rattle.tracker.specs.declared.State.{State}
 use Rattle.tracker.specs.Opened.{owner_of, owned_cells, opened_state}
-
--- what the number table requires of an opening: 1, 2, 20 and 4
-pub record Opens (tasks objects fields : ℕ) (owners : List ℕ) : Type 0 where
-  pub some_task : 1 ≤ tasks
-  pub tasks_fit : tasks ≤ max_tasks
-  pub some_object : 1 ≤ objects
-  pub objects_fit : objects ≤ max_objects
-  pub fields_fit : fields ≤ max_fields
-  pub owners_low : (object : ℕ) → object < objects → get_or owners object 0 < tasks
-
--- a state in which nothing has been done yet: each cell is held by one task, for writing
-pub record Fresh (s : State) : Type 0 where
-  pub shaped : Shaped s
-  pub sound : Sound s
-  pub none_done : (task : ℕ) → done_of s task ≡ 0
-  pub held : (cell : ℕ) → cell < cell_count s → locality_of s cell ≡ WriteExclusive (holder_of (locality_of s cell))
+use Rattle.tracker.specs.Laws.Opened.{Fresh, Opens}
 
 module _ (owners : List ℕ) (fields : ℕ) where
   pub cells_none : owned_cells owners fields 0 ≡ replicate max_cells (owned 0)

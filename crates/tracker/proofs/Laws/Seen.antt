@@ -8,22 +8,20 @@ use Rattle.codec.specs.Limit.{max_tasks, max_cells}
 use Rattle.tracker.specs.State.{seen_of, cell_count, locality_of}
 use Rattle.tracker.specs.Row.{row_of, row_at}
 use Rattle.tracker.specs.Next.{locality_after, effect_of, state_after}
-use Rattle.tracker.proofs.Laws.State.{Shaped}
-use Rattle.tracker.proofs.Laws.View.{View, one, two, three, four, five, six, seven, eight, nine, ten, view}
+use Rattle.tracker.specs.Laws.State.{Shaped}
+use Rattle.tracker.specs.Laws.View.{View, one, two, three, four, five, six, seven, eight, nine, ten}
+use Rattle.tracker.proofs.Laws.View.{view}
 use Rattle.tracker.proofs.Laws.After.{next_cells, next_locality, next-seen, next-shares, other_seen, other_locality}
-use Rattle.tracker.proofs.Laws.Facts.{Sound, cells_fit}
-use Rattle.tracker.proofs.Laws.Kept.{Accepts, next_facts}
+use Rattle.tracker.specs.Laws.Facts.{Sound}
+use Rattle.tracker.proofs.Laws.Facts.{cells_fit}
+use Rattle.tracker.specs.Laws.Kept.{Accepts}
+use Rattle.tracker.proofs.Laws.Kept.{next_facts}
 use Rattle.tracker.specs.declared.Locality.{Locality}
 use Rattle.tracker.specs.declared.Locality.TheVariants.{ReadShared}
 use Rattle.tracker.specs.declared.Row.{Row}
 use Rattle.tracker.specs.declared.Row.TheVariants.{Three, Five, Six}
 use Rattle.tracker.specs.declared.State.{State}
-
--- the cell is in a share that the task has seen
-pub record Sees (s : State) (task cell : ℕ) : Type 0 where
-  pub share : ℕ
-  pub shared : locality_of s cell ≡ ReadShared share
-  pub seen : share ≤ seen_of s task
+use Rattle.tracker.specs.Laws.Seen.{Newest, Sees, newest_five, newest_six}
 
 pub sees_three : (s : State) (task cell : ℕ) → Sees s task cell → row_at s task cell false ≡ Three
 unfolding row_of
@@ -51,11 +49,6 @@ read_stays s task share seen = elim (split (leb share seen)) [
   | passes p ↦ rw p
   | fails p ↦ rw p
 ]
-
--- the rows that set Seen to G
-pub data Newest : Row → Type 0 where
-  newest_five : Newest Five
-  newest_six : Newest Six
 
 -- row 5 to the G that it makes
 newest_seen : {row : Row} (s : State) (task : ℕ) (l : Locality) → Newest row → (effect_of row s task l).seen ≡ (effect_of row s task l).shares

@@ -11,21 +11,15 @@ use Rattle.history.specs.Sound.{Sound as SoundHistory}
 use Rattle.history.proofs.Laws.Sound.{sound_none, sound_more}
 use Rattle.tracker.specs.State.{done_of}
 use Rattle.tracker.specs.Next.{state_after}
-use Rattle.tracker.proofs.Laws.Opened.{Fresh}
-use Rattle.tracker.proofs.Laws.Kept.{Accepts}
+use Rattle.tracker.specs.Laws.Opened.{Fresh}
+use Rattle.tracker.specs.Laws.Kept.{Accepts}
 use Rattle.tracker.proofs.Laws.Covers.{covers_none}
-use Rattle.tracker.proofs.Laws.Covered.{write_exclusive}
-use Rattle.tracker.proofs.Laws.Invariant.{Invariant}
-use Rattle.tracker.proofs.Laws.Accesses.{act_of, tracked_entry, memory_after}
+use Rattle.tracker.specs.Laws.Covered.{write_exclusive}
+use Rattle.tracker.specs.Laws.Invariant.{Invariant}
+use Rattle.tracker.specs.Laws.Accesses.{act_of, tracked_entry, memory_after}
 use Rattle.tracker.proofs.Laws.OneAccess.{access_points_back, access_follows, access_keeps}
 use Rattle.tracker.specs.declared.State.{State}
-
--- from a state in which nothing had been done, as an opened one, and these starting values, accepted accesses led to this state, memory
--- by cell, and history. How the cells are numbered, and which task held which at first, makes no difference.
-pub data Tracks (start : ℕ → ℕ) : State → (ℕ → ℕ) → History → Type 0 where
-  tracks_opened : {s : State} → Fresh s → Tracks start s start []
-  tracks_more : {s : State} {memory : ℕ → ℕ} {h : History} (task cell : ℕ) (write : Bool) (value : ℕ) → Tracks start s memory h → Accepts s task cell
-      → Tracks start (state_after s task cell write) (memory_after memory cell write value) (tracked_entry s task cell write value (memory cell) ∷ h)
+use Rattle.tracker.specs.Laws.Tracks.{Tracks, tracks_more, tracks_opened}
 
 -- the invariant holds at the opening, and one accepted access keeps it
 pub tracks_invariant : {start : ℕ → ℕ} {s : State} {memory : ℕ → ℕ} {h : History} → Tracks start s memory h → Invariant s h

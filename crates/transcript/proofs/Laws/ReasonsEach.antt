@@ -17,17 +17,11 @@ use Rattle.scheduler.specs.Finish.{Play}
 use Rattle.scheduler.specs.Schedule.{schedule_of, settled_of}
 use Rattle.scheduler.proofs.Laws.Schedule.{schedule_settled}
 use Rattle.scheduler.proofs.Laws.Settled.{settled_along, settled_ends}
-use Rattle.waits.proofs.Laws.WaitsEach.{Waiting, waits_each}
+use Rattle.waits.specs.Laws.WaitsEach.{Waiting}
+use Rattle.waits.proofs.Laws.WaitsEach.{waits_each}
 use Rattle.transcript.specs.Told.{stop_in, after_of}
 use Rattle.transcript.proofs.Laws.Told.{stop-taken}
-
--- the run that the steps of a recording lead to
-abbrev pub ReasonEach : List ℕ → Run → Type 0
-ReasonEach b r = (t : ℕ) → t < r.tasks → has_left r t ≡ true → Waiting b r t
-
-abbrev pub NeverComes : List ℕ → List (List Entry) → Run → Type 0
-NeverComes b bodies r =
-    (t : ℕ) → t < r.tasks → has_left r t ≡ true → (place : ℕ) (q : Position) → unmet_next r b t ≡ first place q → (order : List ℕ) → Allowed bodies order → times q.task order < q.number
+use Rattle.transcript.specs.Laws.ReasonsEach.{NeverComes, ReasonEach}
 
 module _ (b : List ℕ) (p : Parsed) (e : parse b ≡ read p) (z : (stop_in b (opened_run p) p.recording.values (schedule_of b (opened_run p))).number ≡ 0) where
   -- the play's run is the one without a memory

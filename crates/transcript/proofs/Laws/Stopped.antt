@@ -10,7 +10,8 @@ use Rattle.replayer.specs.Memory.{agrees}
 use Rattle.replayer.specs.OpenOf.{opened_run}
 use Rattle.scheduler.specs.Finish.{Play, left_over, stepped_by}
 use Rattle.scheduler.specs.Laws.Finish.{Playing}
-use Rattle.scheduler.proofs.Laws.Lowest.{goes_on_lem, stops, standing, step-differs}
+use Rattle.scheduler.specs.Laws.Lowest.{goes_on_lem, stops}
+use Rattle.scheduler.proofs.Laws.Lowest.{standing, step-differs}
 use Rattle.scheduler.proofs.Laws.Schedule.{schedule_stops, schedule_goes, step-taken}
 use Rattle.scheduler.specs.Schedule.{schedule_from, schedule_of}
 use Rattle.transcript.specs.Told.{stop_in}

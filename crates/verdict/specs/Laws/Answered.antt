@@ -11,7 +11,8 @@ use Rattle.reader.specs.Parse.{Parsed, parse}
 use Rattle.replayer.specs.OpenOf.{opened_run}
 use Rattle.scheduler.specs.Schedule.{schedule_of, settled_of}
 use Rattle.playability.specs.declared.Playability.{Playability}
-use Rattle.playability.proofs.Laws.Held.{held, free, hold_is}
+use Rattle.playability.specs.Laws.Held.{held, free}
+use Rattle.playability.proofs.Laws.Held.{hold_is}
 use Rattle.playability.proofs.Laws.PlayableOf.{bytes-refused, task-held, order-fits}
 use Rattle.playability.specs.PlayableOf.{PlayableOutcome, playable_of}
 use Rattle.playability.specs.Settle.{settled_in, settle_of}

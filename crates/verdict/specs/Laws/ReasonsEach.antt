@@ -10,7 +10,8 @@ use Rattle.scheduler.proofs.Laws.Settled.{settled_along, settled_ends}
 use Rattle.scheduler.specs.Schedule.{settled_of}
 use Rattle.playability.proofs.Laws.Theorem.{never_comes}
 use Rattle.playability.specs.Order.{times, Allowed}
-use Rattle.waits.proofs.Laws.WaitsEach.{Waiting, waits_each}
+use Rattle.waits.specs.Laws.WaitsEach.{Waiting}
+use Rattle.waits.proofs.Laws.WaitsEach.{waits_each}
 
 pub record Told (b : List ℕ) (p : Parsed) (t : ℕ) : Type 0 where
   pub waiting : Waiting b (settled_of b (opened_run p)) t

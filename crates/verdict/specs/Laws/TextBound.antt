@@ -11,7 +11,8 @@ use Rattle.scheduler.proofs.Laws.Opened.{opened-left}
 use Rattle.scheduler.proofs.Laws.Schedule.{schedule_short}
 use Rattle.scheduler.specs.Schedule.{schedule_of, settled_of}
 use Rattle.playability.proofs.Laws.Counted.{allowed-below}
-use Rattle.playability.proofs.Laws.Held.{held, free, hold_is}
+use Rattle.playability.specs.Laws.Held.{held, free}
+use Rattle.playability.proofs.Laws.Held.{hold_is}
 use Rattle.playability.proofs.Laws.Walk.{order-reached}
 use Rattle.replay_lines.proofs.Laws.LinesBound.{refusal_few}
 use Rattle.replay_lines.specs.Limits.{longest, most_steps}

@@ -10,26 +10,15 @@ use Rattle.pending.specs.declared.Run.{Run}
 use Rattle.pending.specs.declared.TaskRun.{TaskRun}
 use Rattle.pending.specs.Met.{all_met}
 use Rattle.pending.specs.Next.{entry_next, judged, next_of, is_open}
-use Rattle.replayer.proofs.Laws.Along.{Along, along_entry}
+use Rattle.replayer.specs.Laws.Along.{Along}
+use Rattle.replayer.proofs.Laws.Along.{along_entry}
 use Rattle.replayer.specs.ReadyOf.{has_left, is_ready, ready_of}
 use Rattle.replayer.proofs.Laws.ReadyOf.{ready-word}
 use Rattle.replayer.proofs.Laws.Word.{zero_bit}
 use Rattle.pending.specs.Run.{task_at, done_of}
 use Rattle.pending.specs.Unmet.{Unmet, first, unmet_of, unmet_in, unmet_next}
 use Rattle.waits.specs.Waits.{wait_line, wait_of}
-
--- an ordering holds it up
-record Held (u : Unmet) : Type 0 where
-  pub place : ℕ
-  pub ordering : Position
-  pub is : u ≡ first place ordering
-
--- a task waits for an ordering, and its line says so
-pub record Waiting (b : List ℕ) (r : Run) (t : ℕ) : Type 0 where
-  pub place : ℕ
-  pub ordering : Position
-  pub unmet : unmet_next r b t ≡ first place ordering
-  pub line : wait_of b r t ≡ wait_line t (first place ordering)
+use Rattle.waits.specs.Laws.WaitsEach.{Held, Waiting}
 
 -- orderings that are not all met have a first unmet one
 some-unmet : (runs : List TaskRun) (at : ℕ) (ps : List Position) → all_met runs ps ≡ false → Held (unmet_of runs at ps)

@@ -1,6 +1,6 @@
 use Rattle.pending.proofs.Laws.Opens.{opens_end, opens_access, opens_range, opens_unmet, opens_met}
 use Rattle.entries.proofs.Laws.EntryCase.{ordering-below}
-use Rattle.entries.proofs.Laws.EntryCode.{position_at}
+use Rattle.entries.specs.Laws.EntryCode.{position_at}
 use Rattle.entries.specs.Entry.{ordering_ok}
 use Rattle.codec.specs.Laws.Front.{ordering-here}
 use Rattle.codec.specs.Decode.{record_of, is_ordering}

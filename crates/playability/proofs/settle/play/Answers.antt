@@ -7,9 +7,11 @@ use Rattle.scheduler.specs.Laws.Columns.{run_of}
 use Rattle.scheduler.proofs.Laws.Columns.{columns_back}
 use Rattle.scheduler.specs.Laws.ColumnsCode.{Columned}
 use Rattle.scheduler.proofs.Laws.ColumnsCode.{columned_none}
-use Rattle.scheduler.proofs.Laws.Lowest.{SteppedTo, found-next, found_none}
+use Rattle.scheduler.specs.Laws.Lowest.{SteppedTo}
+use Rattle.scheduler.proofs.Laws.Lowest.{found-next, found_none}
 use Rattle.scheduler.proofs.Else.{Found, found-ready, not-ready}
-use Rattle.playability.proofs.Laws.SettleCode.{Settling, settling_none, settling_more, settling_fewer, settling_fits, settling_ends}
+use Rattle.playability.specs.Laws.SettleCode.{Settling}
+use Rattle.playability.proofs.Laws.SettleCode.{settling_none, settling_more, settling_fewer, settling_fits, settling_ends}
 use borrow.Author.Rules.{rules}
 use Rattle.playability.proofs.settle.play.Goals as goal
 use Rattle.playability.proofs.settle.play.Goals.{After-lowest-n, At-loop-places, In-Ready, Start}

@@ -3,7 +3,8 @@ use Rattle.codec.specs.Laws.Kind.{kind-writes}
 use Rattle.codec.specs.Cell.{op_cell}
 use borrow.Author.Tests.{not-true, not-false}
 use Rattle.scheduler.proofs.Else.{not-ready}
-use Rattle.scheduler.proofs.Laws.Lowest.{SteppedTo, found-next, found_none}
+use Rattle.scheduler.specs.Laws.Lowest.{SteppedTo}
+use Rattle.scheduler.proofs.Laws.Lowest.{found-next, found_none}
 use Rattle.playback.specs.Laws.FinishCode.{Going, going_start, going_on, going_stopped, going_end}
 use Rattle.pending.proofs.Laws.Next.{next-long}
 use Rattle.scheduler.specs.Finish.{Play, left_over, finished_of}

@@ -1,7 +1,8 @@
 use mathlib.Core.Logic.{⊎_elim}
 use Prim.Native.Nat.{◌-◌}
 use native.Mathlib.Omega.{arith}
-use Rattle.replay_lines.proofs.Laws.BlockCode.{Picked, picked_none, picked_one, picked_not, picked_all}
+use Rattle.replay_lines.specs.Laws.BlockCode.{Picked}
+use Rattle.replay_lines.proofs.Laws.BlockCode.{picked_none, picked_one, picked_not, picked_all}
 use Rattle.replay_lines.proofs.block.ready_tasks.Goals as goal
 use Rattle.replay_lines.proofs.block.ready_tasks.Goals.{then-w-eq1, else-w-eq1}
 

@@ -2,7 +2,8 @@ use mathlib.Core.Path.{refl}
 use Prim.Native.Nat.{◌-◌}
 use Rattle.codec.specs.Limit.{max_tasks}
 use Rattle.scheduler.specs.Laws.Columns.{place_of, end_of, count_of}
-use Rattle.pending.proofs.Laws.Each.{Filled, filled_none, filled_more, filled-all}
+use Rattle.pending.specs.Laws.Each.{Filled}
+use Rattle.pending.proofs.Laws.Each.{filled_none, filled_more, filled-all}
 use Rattle.pending.specs.Run.{done_of}
 use Rattle.scheduler.proofs.columns.columns_of.Given as goal
 

@@ -16,7 +16,8 @@ use Rattle.scheduler.proofs.Laws.Columns.{columns_task, columns_one}
 use Rattle.scheduler.specs.Laws.ColumnsCode.{Columned}
 use Rattle.scheduler.proofs.Laws.ColumnsCode.{columned_noted, columned_moved, columned_on}
 use Rattle.scheduler.specs.Laws.Lowest.{lowest_of, after_of}
-use Rattle.scheduler.proofs.Laws.Lowest.{IsNext, ready-left, lowest-next, lowest-none, visit_first, visit_all}
+use Rattle.scheduler.specs.Laws.Lowest.{IsNext}
+use Rattle.scheduler.proofs.Laws.Lowest.{ready-left, lowest-next, lowest-none, visit_first, visit_all}
 use Rattle.scheduler.specs.Laws.Visit.{Visited}
 use Rattle.scheduler.proofs.Laws.Visit.{none_more, own_note}
 use borrow.Enum.Refused.{opened}

@@ -9,8 +9,10 @@ use Rattle.scheduler.specs.Laws.Columns.{run_of}
 use Rattle.scheduler.proofs.Laws.Columns.{columns_back}
 use Rattle.scheduler.specs.Laws.ColumnsCode.{Columned}
 use Rattle.scheduler.proofs.Laws.ColumnsCode.{columned_none}
-use Rattle.scheduler.proofs.Laws.Lowest.{SteppedTo, found-next, found_none}
-use Rattle.scheduler.proofs.Laws.ScheduleCode.{Writing, wrote_none, writing_none, writing_more, writing_stops, writing_full}
+use Rattle.scheduler.specs.Laws.Lowest.{SteppedTo}
+use Rattle.scheduler.proofs.Laws.Lowest.{found-next, found_none}
+use Rattle.scheduler.specs.Laws.ScheduleCode.{Writing}
+use Rattle.scheduler.proofs.Laws.ScheduleCode.{wrote_none, writing_none, writing_more, writing_stops, writing_full}
 use Rattle.scheduler.proofs.Else.{not-ready}
 use Rattle.scheduler.proofs.schedule.schedule.Given as goal
 

@@ -1,4 +1,5 @@
-use Rattle.scheduler.proofs.Laws.Visit.{Resumed, resumed_first, resumed_ahead, visit_none, visit_looks, noted_set, noted_scan}
+use Rattle.scheduler.specs.Laws.Visit.{Resumed}
+use Rattle.scheduler.proofs.Laws.Visit.{resumed_first, resumed_ahead, visit_none, visit_looks, noted_set, noted_scan}
 use Rattle.pending.specs.FirstUnmet.{Reached}
 use Rattle.entries.specs.declared.Limits.{Limits}
 use lib.ListN.{get_or}

@@ -3,7 +3,7 @@ use Rattle.std.specs.Prelude.{ℕ, ◌≤◌, ◌<◌}
 use Rattle.history.specs.Entry.{touches, writes}
 use Rattle.history.specs.History.{History}
 use Rattle.tracker.specs.State.{seen_of, done_at, took_at}
-use Rattle.tracker.proofs.Laws.Covers.{Covers}
+use Rattle.tracker.specs.Laws.Covers.{Covers}
 use Rattle.tracker.specs.declared.Locality.{Locality}
 use Rattle.tracker.specs.declared.Locality.TheVariants.{WriteExclusive, ReadExclusive, ReadShared}
 use Rattle.tracker.specs.declared.State.{State}

@@ -4,9 +4,9 @@ use Rattle.std.specs.Prelude.{◌≡◌, ℕ, ◌<◌}
 use Rattle.history.specs.Entry.{Entry}
 use Rattle.history.specs.History.{History, count, At}
 use Rattle.tracker.specs.State.{done_of, cell_count, locality_of}
-use Rattle.tracker.proofs.Laws.State.{Shaped}
-use Rattle.tracker.proofs.Laws.Facts.{Sound}
-use Rattle.tracker.proofs.Laws.Covered.{Covered}
+use Rattle.tracker.specs.Laws.State.{Shaped}
+use Rattle.tracker.specs.Laws.Facts.{Sound}
+use Rattle.tracker.specs.Laws.Covered.{Covered}
 use Rattle.tracker.specs.declared.State.{State}
 
 pub record Invariant (s : State) (h : History) : Type 0 where

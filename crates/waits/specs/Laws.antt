@@ -1,0 +1,2 @@
+-- Definitions that the contracts of functions speak of, beside those of the paper's words.
+pub mod WaitsEach
