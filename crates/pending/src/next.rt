@@ -131,7 +131,7 @@ pub fn open_at(
         if dones[source as usize] < number as usize {
             return false;
         }
-        place += length_of(ORDERING) as usize;
+        place = place + length_of(ORDERING) as usize;
     }
     false
 }
