@@ -1,5 +1,6 @@
 /*
- * The access recorder and the replayer as a C library: target/staticlib/liblinked.a, made by `rt staticlib linked`, for x86-64.
+ * The access recorder and the replayer as a C library: crates/linked/out/liblinked.a, made by `rt lib` in crates/linked,
+ * for x86-64.
  * docs/FIRMWARE.md has how to build and link, sizes and stack; examples/run_a.c is a whole program. `tests/header` compares this file
  * with the library's sources.
  *
