@@ -7,5 +7,6 @@ pub mod Head
 pub mod Kind
 pub mod Limit
 pub mod Number
+pub mod Reason
 pub mod Store
 pub mod Laws

@@ -1,5 +1,63 @@
-// Document 01's number table.
+// Why a call refuses: the rows of the number table.
+ghost use Rattle.std.specs.Prelude.{◌≡◌};
+ghost use Rattle.codec.specs.Reason.{number_of};
 
+#[derive(Clone, Copy, Debug, PartialEq, Eq)]
+pub enum Reason {
+    // T not 1 to 16.
+    TaskRange = 1,
+    // N not 1 to 256.
+    ObjectRange = 2,
+    // A list of owners not of N entries, or starts or a memory not of N times F.
+    Entries = 3,
+    // An owner not below T.
+    OwnerRange = 4,
+    // Task not below T.
+    NoTask = 5,
+    // Object not below N.
+    NoObject = 6,
+    // Access neither 0 (read) nor 1 (write).
+    NoSort = 7,
+    // The task has made 65,535 accesses.
+    Full = 8,
+    // Output too short.
+    NoRoom = 9,
+    // (a), (d): part of the record, or of a section's body, is missing.
+    Short = 10,
+    // (b), (c), (e): unknown kind or wrong length.
+    Malformed = 11,
+    // (f): this kind is not allowed here.
+    Misplaced = 12,
+    // (g): a number out of range.
+    Range = 13,
+    // (a), (d) against a body's end, and a wrong count of accesses.
+    InBody = 14,
+    // This task has no accesses left.
+    Finished = 15,
+    // The task is held up by an ordering.
+    Held = 16,
+    // Unsound state or run.
+    Unsound = 17,
+    // No order of all accesses keeps each task's own order and every ordering.
+    NoOrder = 18,
+    // The memory differs from the value in the read's record.
+    Differs = 19,
+    // F not 1 to 8, or a field not below F.
+    NoField = 20,
+    // The ends of the logs decrease, go past the logs, or are not T in number.
+    Ends = 21,
+}
+
+impl Reason {
+    // Its number in the table.
+    pub fn number(self) -> u32
+        ensures { result ≡ number_of self }
+    {
+        self as u32
+    }
+}
+
+// The same numbers, for the calls that answer them.
 // 1: T not 1 to 16.
 pub const TASK_RANGE: u32 = 1;
 // 2: N not 1 to 256.
