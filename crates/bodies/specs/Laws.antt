@@ -1,4 +1,3 @@
 -- The laws of this crate's definitions. All of them are proved; a reader does not have to trust anything here.
-pub mod Answers
 pub mod Standing
 pub mod WalkCode
