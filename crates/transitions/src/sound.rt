@@ -8,7 +8,7 @@ ghost use Rattle.tracker.specs.Sound.{last_sound, task_sound, tasks_sound, cell_
 
 use codec::Position;
 use codec::cell::cells_of;
-use codec::limit::{CELLS, FIELDS, OBJECTS, TASKS, least, within};
+use codec::limit::{CELLS, FIELDS, OBJECTS, TASKS, within};
 use tracker::{Counters, Locality};
 
 // There is no Last and then no share, or Last's task has made that access.
@@ -55,15 +55,12 @@ fn tasks_sound(
     requires { tasks ≤ max_tasks }
     ensures { result ≡ tasks_sound tasks shares done seen took }
 {
-    let n = tasks as usize;
     let mut sum: u32 = 0;
-    let mut i: usize = 0;
-    while i < n {
-        if !task_sound(done[i], seen[i], took[i], shares) {
+    for t in 0..tasks as usize {
+        if !task_sound(done[t], seen[t], took[t], shares) {
             return false;
         }
-        sum += done[i] as u32;
-        i += 1;
+        sum += done[t] as u32;
     }
     shares <= sum
 }
@@ -97,5 +94,5 @@ pub fn counters_sound(counters: Counters) -> bool
 pub fn cells_in(objects: u16, fields: u16) -> usize
     ensures { result ≡ min (cells_of fields objects) max_cells }
 {
-    least(cells_of(fields as usize, objects as usize), CELLS)
+    cells_of(fields as usize, objects as usize).min(CELLS)
 }
