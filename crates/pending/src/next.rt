@@ -35,6 +35,7 @@ pub struct Look {
 
 // The place of the first unmet ordering from `from` on, or `at`, the place of the access's record. There are only orderings up to that
 // record, and only their sources and numbers are read.
+// Kept: a `while` over places, since the place itself is the answer and a chain over chunks would compute it back from an index.
 pub fn first_unmet(bytes: &[u8], from: usize, at: usize, dones: &[usize; TASKS]) -> usize
     requires { InGroup bytes.now dones.now from at }
     ensures { Scanned bytes.now dones.now from at result }
@@ -94,6 +95,7 @@ pub fn look_at(
 // Whether the group between two places ends with an access that may be done. A caller who asks no more is answered at the first ordering that is
 // not met: nothing behind it is read. With two callers of `look_at` in one program the compiler calls it, and a replay by the ready word took 1.1
 // of its time.
+// Kept: a `while` over places, since the records of a group have different lengths.
 pub fn open_at(
     bytes: &[u8],
     from: usize,
