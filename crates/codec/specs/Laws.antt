@@ -7,6 +7,7 @@ pub mod Front
 pub mod Head
 pub mod Kind
 pub mod Limit
+pub mod Reason
 pub mod Roundtrip
 pub mod Store
 pub mod Strict

@@ -1,11 +1,10 @@
 -- Bodies that read, each after a section record that gives its accesses and bytes, and all after a head, read as the recording of those
 -- accesses: this is what the pieces written by the section writer form when they are joined.
-use Rattle.std.specs.Prelude.{◌≡◌, refl, List, [], ◌∷◌, ◌++◌, ℕ, suc, ◌+◌, ◌<◌, length}
+use Rattle.std.specs.Prelude.{Ok, ◌≡◌, refl, List, [], ◌∷◌, ◌++◌, ℕ, suc, ◌+◌, ◌<◌, length}
 use Rattle.std.proofs.Common.{arith, eq-eqb}
 use Rattle.codec.specs.Encode.{head, section}
 use Rattle.codec.specs.Field.{Bytes}
 use Rattle.entries.specs.declared.Limits.{Limits}
-use Rattle.entries.specs.Reading.{read, stop}
 use Rattle.entries.specs.Recording.{Entry, Recording}
 use Rattle.entries.specs.Bytes.{sections_bytes, bytes_of}
 use Rattle.reader.specs.Range.{BodiesIn, HeadIn}
@@ -14,13 +13,13 @@ use Rattle.reader.specs.Laws.BodyStrict.{body_strict}
 use Rattle.reader.specs.Parse.{parse}
 use Rattle.reader.specs.Laws.Roundtrip.{parse_back, spans_of}
 
-pub reads_walk : (m : Limits) (at : ℕ) (b : List ℕ) (es : List Entry) (wrong : ℕ) → body_entries m at b ≡ read es → walk_of m at b (length es) wrong ≡ stop 0 0
+pub reads_walk : (m : Limits) (at : ℕ) (b : List ℕ) (es : List Entry) (wrong : ℕ) → body_entries m at b ≡ Ok es → walk_of m at b (length es) wrong ≡ Ok tt
 unfolding walk_of judged tally
 reads_walk m at b es wrong q = let o : 0 + length es ≡ length es = omega arith in rw (q, o, eq-eqb (length es) (length es) refl)
 
 pub record LogRead (m : Limits) (log : List ℕ) (es : List Entry) : Type 0 where
   pub bytes : Bytes log
-  pub reads : body_entries m 0 log ≡ read es
+  pub reads : body_entries m 0 log ≡ Ok es
   pub count : length es < 65536
   pub size : length log < 4294967296
 
@@ -50,7 +49,7 @@ joined_bytes tasks objects fields t (log ∷ logs) (es ∷ bodies) w =
 
 pub parse_joined : (r : Recording) (logs : List (List ℕ)) → HeadIn r.tasks r.fields r.owners r.values → length r.bodies ≡ r.tasks
     → LogsRead r.tasks (length r.owners) r.fields 0 logs r.bodies
-    → parse (head r.fields r.tasks r.owners r.values ++ joined 0 logs r.bodies) ≡ read (record { recording = r; spans = spans_of r })
+    → parse (head r.fields r.tasks r.owners r.values ++ joined 0 logs r.bodies) ≡ Ok (record { recording = r; spans = spans_of r })
 unfolding bytes_of
 parse_joined r logs i l w =
     let j = joined_bytes r.tasks (length r.owners) r.fields 0 logs r.bodies w in

@@ -1,6 +1,6 @@
 -- What the layout and the head's entries say, for the crates above: the layout by the meaning of the bytes, and the starting values as
 -- stored in the head.
-use Rattle.std.specs.Prelude.{◌≡◌, refl, List, [], ◌∷◌, ◌++◌, length, get_or, drop}
+use Rattle.std.specs.Prelude.{Err, Ok, ◌≡◌, refl, List, [], ◌∷◌, ◌++◌, length, get_or, drop}
 use Rattle.std.proofs.Common.{ap, length-append, get_or-drop}
 use Prim.Native.Nat.{ℕ, zero, suc, ◌+◌, ◌-◌, ◌≤◌, ◌<◌, ◌*◌}
 use native.Mathlib.Omega.{arith}
@@ -8,64 +8,43 @@ use Rattle.std.proofs.Math.ListN.{get_or-append}
 use Rattle.std.proofs.lemmas.List.Edits.{sets-eq}
 use Rattle.std.proofs.Math.Seq.{drop-drop}
 use Rattle.codec.specs.Kind.{length_of, head_kind_of}
-use Rattle.codec.specs.declared.Record.{Record}
-use Rattle.codec.specs.declared.Record.TheVariants.{Head, Section, Ordering, Access, Refused}
-use Rattle.codec.specs.Decode.{record_of}
+use Rattle.codec.specs.declared.Record.TheVariants.{Head, Section, Ordering, Access}
+use Rattle.codec.specs.Decode.{Decoded, record_of}
 use Rattle.codec.specs.Field.{field2, field4}
 use Rattle.codec.specs.Head.{head_length, head_step, value_behind}
-use Rattle.codec.specs.Number.{short}
-use Rattle.entries.specs.declared.Checked.{Checked}
 use Rattle.reader.specs.declared.layout.Layout.{Layout}
-use Rattle.entries.specs.Reading.{Reading, refused, read, stop, mapped}
+use Rattle.entries.specs.Reading.{Reading, mapped}
 use Rattle.entries.specs.Records.{records_in}
 use Rattle.reader.specs.Section.{TaskBody}
 use Rattle.reader.specs.Parse.{HeadFields, Parsed, parsed_of, values_of, on_head, head_at, sections_after, parse, values_at}
 use Rattle.reader.specs.Laws.HeadCode.{Headed, head_facts, owners-count, head-from}
 use Rattle.reader.specs.Calls.{no_span}
 use Rattle.reader.specs.Laws.Standing.{Standing, parse-stands}
-use Rattle.reader.specs.Layout.{blank_spans, refused_layout, layout_of}
+use Rattle.reader.specs.Layout.{blank_spans, laid}
 use Rattle.codec.specs.Cell.{width_of}
 use Rattle.codec.specs.Laws.Head.{width_back, kind_back}
 use Rattle.codec.specs.Laws.Within.{Within, record-within}
-use Rattle.codec.specs.Limit.{max_objects, max_fields}
 
 -- the layout of bytes that were read
 pub record Laid (p : Parsed) (l : Layout) : Type 0 where
-  pub number : l.number ≡ 0
   pub tasks : l.tasks ≡ p.recording.tasks
   pub objects : l.objects ≡ length p.recording.owners
   pub fields : l.fields ≡ p.recording.fields
   pub records : l.records ≡ records_in p.recording
   pub span : (t : ℕ) → t < p.recording.tasks → get_or l.spans t no_span ≡ get_or p.spans t no_span
 
-pub laid_read : (b : List ℕ) (p : Parsed) → parse b ≡ read p → Laid p (layout_of (parse b))
-unfolding layout_of
+pub laid_read : (b : List ℕ) (p : Parsed) → parse b ≡ Ok p → Laid p (laid p)
 laid_read b p e =
     let w : Standing b p = parse-stands b p e in
     let o = w.one_each in
     let f = w.few_tasks in
-    rw e (record {
-      number = refl;
+    record {
       tasks = refl;
       objects = refl;
       fields = refl;
       records = refl;
       span = λ t h. rw (sets-eq p.spans blank_spans 0 (omega arith), get_or-append p.spans (drop (0 + length p.spans) blank_spans) no_span t (omega arith));
-    })
-
--- the layout of bytes that were refused
-pub laid_refused : (c : Checked) → ((layout_of (refused c)).number ≡ c.number) × ((layout_of (refused c)).offset ≡ c.offset)
-unfolding layout_of refused_layout
-laid_refused c = (refl, refl)
-
--- N and the number of fields of any layout are within their limits
-few_of_lem : (b : List ℕ) (x : Reading Parsed) → parse b ≡ x → ((layout_of x).fields ≤ max_fields) × ((layout_of x).objects ≤ max_objects)
-unfolding layout_of refused_layout
-few_of_lem b (refused c) e = (omega arith, omega arith)
-few_of_lem b (read p) e = let w : Standing b p = parse-stands b p e in (w.few_fields, w.few_objects)
-
-pub layout_few : (b : List ℕ) → ((layout_of (parse b)).fields ≤ max_fields) × ((layout_of (parse b)).objects ≤ max_objects)
-layout_few b = few_of_lem b (parse b) refl
+    }
 
 -- the starting values: four bytes each, after the owner
 field2-drop : (n i : ℕ) (b : List ℕ) → field2 (drop n b) i ≡ field2 b (n + i)
@@ -117,25 +96,25 @@ pub record Valued (b : List ℕ) (p : Parsed) : Type 0 where
 abbrev Values : List ℕ → HeadFields → Type 0
 Values b h = h.values ≡ values_of (width_of h.fields) (length h.owners) (drop (length_of (head_kind_of h.fields)) b)
 
-on-head-values : (b : List ℕ) (r : Record) (h : HeadFields) → Within r b → on_head b r ≡ read h → Values b h
+on-head-values : (b : List ℕ) (r : Decoded) (h : HeadFields) → Within r b → on_head b r ≡ Ok h → Values b h
 unfolding on_head
-on-head-values b (Head kind t n width) h w p =
+on-head-values b (Ok (Head kind t n width)) h w p =
     let x = head-from b kind t n width h p in
     rw (← x.same, width_back w.0 x.some_cells, kind_back w.0 x.some_cells, owners-count width n (drop (length_of kind) b))
-on-head-values b (Section t n s) h w p = absurd (let z : ◌≡◌ {A = ℕ} 0 1 = cc in omega arith)
-on-head-values b (Ordering q) h w p = absurd (let z : ◌≡◌ {A = ℕ} 0 1 = cc in omega arith)
-on-head-values b (Access o) h w p = absurd (let z : ◌≡◌ {A = ℕ} 0 1 = cc in omega arith)
-on-head-values b (Refused n) h w p = absurd (let z : ◌≡◌ {A = ℕ} 0 1 = cc in omega arith)
+on-head-values b (Ok (Section t n s)) h w p = absurd (let z : ◌≡◌ {A = ℕ} 0 1 = cc in omega arith)
+on-head-values b (Ok (Ordering q)) h w p = absurd (let z : ◌≡◌ {A = ℕ} 0 1 = cc in omega arith)
+on-head-values b (Ok (Access o)) h w p = absurd (let z : ◌≡◌ {A = ℕ} 0 1 = cc in omega arith)
+on-head-values b (Err f) h w p = absurd (let z : ◌≡◌ {A = ℕ} 0 1 = cc in omega arith)
 
 valued : (b : List ℕ) (h : HeadFields) (p : Parsed) → Headed b h → Values b h → (r : Reading (List TaskBody))
-    → mapped (parsed_of h) r ≡ read p → Valued b p
-valued b h p w v (refused c) e = absurd (let z : ◌≡◌ {A = ℕ} 0 1 = cc in omega arith)
-valued b h p w v (read l) e = let y : parsed_of h l ≡ p = cc in rw (← y) (record { values = v; within = w.within })
+    → mapped (parsed_of h) r ≡ Ok p → Valued b p
+valued b h p w v (Err c) e = absurd (let z : ◌≡◌ {A = ℕ} 0 1 = cc in omega arith)
+valued b h p w v (Ok l) e = let y : parsed_of h l ≡ p = cc in rw (← y) (record { values = v; within = w.within })
 
-pub parse-valued : (b : List ℕ) (p : Parsed) → parse b ≡ read p → Valued b p
+pub parse-valued : (b : List ℕ) (p : Parsed) → parse b ≡ Ok p → Valued b p
 unfolding parse head_at
 parse-valued b p e = go (head_at b) refl
   where
     go : (x : Reading HeadFields) → head_at b ≡ x → Valued b p
-    go (refused c) q = absurd (let y : refused c ≡ read p = rw q at e in let z : ◌≡◌ {A = ℕ} 0 1 = cc in omega arith)
-    go (read h) q = valued b h p (head_facts b h q) (on-head-values b (record_of short b) h (record-within short b (omega arith)) q) (sections_after h b) (rw q at e)
+    go (Err c) q = absurd (let y : Err c ≡ Ok p = rw q at e in let z : ◌≡◌ {A = ℕ} 0 1 = cc in omega arith)
+    go (Ok h) q = valued b h p (head_facts b h q) (on-head-values b (record_of b) h (record-within b) q) (sections_after h b) (rw q at e)

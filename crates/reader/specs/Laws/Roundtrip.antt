@@ -1,5 +1,5 @@
 -- Read-back: the meaning of a recording's bytes is that recording.
-use Rattle.std.specs.Prelude.{◌≡◌, true, drop, eqb}
+use Rattle.std.specs.Prelude.{Ok, ◌≡◌, true, drop}
 use Rattle.std.proofs.Math.Path.{refl}
 use Rattle.std.proofs.Common.{ap, ap₂, ◌∙◌, sym, arith, take-append-drop, take_at, drop-drop, lt-ltb, eq-eqb, ne_eqb}
 use mathlib.Core.List.{List, [], ◌∷◌, ◌++◌, append_assoc, map}
@@ -16,17 +16,17 @@ use Rattle.codec.specs.Kind.{length_of, head_kind_of}
 use Rattle.codec.specs.Head.{head_length, head_step}
 use Rattle.codec.specs.Limit.{max_tasks, max_objects, max_fields}
 use Rattle.codec.specs.Laws.Limit.{within_test}
-use Rattle.codec.specs.Number.{short, in_body, misplaced}
+use Rattle.codec.specs.declared.number.Reason.TheVariants.{InBody, Misplaced}
 use Rattle.codec.specs.Laws.Roundtrip.{FitsOp, read-ordering, read-access, read-section, read_head}
-use Rattle.entries.specs.declared.Checked.{Checked}
+use Rattle.entries.specs.declared.Refusal.{Refusal}
 use Rattle.entries.specs.declared.Limits.{Limits}
 use Rattle.reader.specs.declared.Span.{Span}
-use Rattle.entries.specs.Reading.{read, stop}
+use Rattle.entries.specs.Reading.{stop}
 use Rattle.entries.specs.Recording.{Entry, Recording}
 use Rattle.entries.specs.Bytes.{orderings_bytes, entry_bytes, entry_length, body_bytes, sections_bytes, bytes_of}
 use Rattle.entries.proofs.Laws.Bytes.{entry_length_lem, entry-some}
 use Rattle.reader.specs.Range.{PositionIn, OpIn, OrderingsIn, EntryIn, EntriesIn, BodyIn, BodiesIn, AllUnder, HeadIn, InRange}
-use Rattle.entries.specs.Entry.{ordering_ok, on_record, access_of, entry_at, number_of}
+use Rattle.entries.specs.Entry.{ordering_ok, on_record, access_of, entry_at, check_op}
 use Rattle.entries.proofs.Laws.Entry.{entry-ordering, entry-step}
 use Rattle.entries.specs.Body.{body_entries}
 use Rattle.entries.proofs.Laws.Body.{body_end, body_step}
@@ -47,8 +47,8 @@ position_ok : (m : Limits) (p : Position) → PositionIn m p → ordering_ok m p
 unfolding ordering_ok
 position_ok m p i = rw (lt-ltb p.task m.tasks i.below, ne_eqb p.task m.own i.other, lt-ltb 0 p.number i.some)
 
-op_ok : (m : Limits) (o : Op) → OpIn m o → eqb (number_of m o) 0 ≡ true
-op_ok m o i = eq-eqb (number_of m o) 0 (in_access m o (record { stands = i.stands; below = i.below; field_below = i.field_below }))
+op_ok : (m : Limits) (o : Op) → OpIn m o → check_op m o ≡ Ok tt
+op_ok m o i = (in_access m o (record { stands = i.stands; below = i.below; field_below = i.field_below }))
 
 op_fits : (m : Limits) (o : Op) → Small m → OpIn m o → FitsOp o
 op_fits m o s i = record {
@@ -62,28 +62,28 @@ op_fits m o s i = record {
 
 module _ (m : Limits) (s : Small m) where
   -- an access with its orderings, followed by anything
-  orderings_back : (ended : Checked) (at : ℕ) (ps : List Position) (o : Op) (r : List ℕ) → OrderingsIn m ps → OpIn m o
-      → entry_at m ended at (orderings_bytes ps ++ (access o ++ r)) ≡ read (record { orderings = ps; op = o })
+  orderings_back : (ended : Refusal) (at : ℕ) (ps : List Position) (o : Op) (r : List ℕ) → OrderingsIn m ps → OpIn m o
+      → entry_at m ended at (orderings_bytes ps ++ (access o ++ r)) ≡ Ok (record { orderings = ps; op = o })
   unfolding orderings_bytes on_record access_of
   orderings_back ended at [] o r i j =
       entry-step m ended at (access o ++ r) (omega (arith, length-append (access o) r, access-long o))
-      ∙ rw (read-access in_body o r (op_fits m o s j), op_ok m o j)
+      ∙ rw (read-access o r (op_fits m o s j), op_ok m o j)
   orderings_back ended at (p ∷ ps) o r i j =
       let l : List ℕ = orderings_bytes ps ++ (access o ++ r) in
       rw append_assoc (entry-ordering m ended at (ordering p ++ l) p (omega (arith, length-append (ordering p) l, ordering-length p))
-      (read-ordering in_body p l (record { task = omega (arith, i.0.below, s.tasks); number = i.0.fits })) (position_ok m p i.0)
-      ∙ rw (drop_at (ordering p) l 8 (ordering-length p), orderings_back (stop misplaced at) (at + 8) ps o r i.1 j))
+      (read-ordering p l (record { task = omega (arith, i.0.below, s.tasks); number = i.0.fits })) (position_ok m p i.0)
+      ∙ rw (drop_at (ordering p) l 8 (ordering-length p), orderings_back (stop Misplaced at) (at + 8) ps o r i.1 j))
 
-  pub entry_back : (ended : Checked) (at : ℕ) (e : Entry) (r : List ℕ) → EntryIn m e → entry_at m ended at (entry_bytes e ++ r) ≡ read e
+  pub entry_back : (ended : Refusal) (at : ℕ) (e : Entry) (r : List ℕ) → EntryIn m e → entry_at m ended at (entry_bytes e ++ r) ≡ Ok e
   unfolding entry_bytes
   entry_back ended at e r i = rw append_assoc (orderings_back ended at e.orderings e.op r i.orderings i.op)
 
-  pub body_back : (at : ℕ) (es : List Entry) → EntriesIn m es → body_entries m at (body_bytes es) ≡ read es
+  pub body_back : (at : ℕ) (es : List Entry) → EntriesIn m es → body_entries m at (body_bytes es) ≡ Ok es
   unfolding body_bytes
   body_back at [] i = body_end m at [] refl
   body_back at (e ∷ es) i =
       body_step m at (entry_bytes e ++ body_bytes es) (omega (arith, length-append (entry_bytes e) (body_bytes es), entry-some e))
-      ∙ rw (entry_back (stop in_body at) at e (body_bytes es) i.0, drop_at (entry_bytes e) (body_bytes es) (entry_length e) (entry_length_lem e i.0.op.access), body_back (at + entry_length e) es i.1)
+      ∙ rw (entry_back (stop InBody at) at e (body_bytes es) i.0, drop_at (entry_bytes e) (body_bytes es) (entry_length e) (entry_length_lem e i.0.op.access), body_back (at + entry_length e) es i.1)
 
 -- where the sections' bodies are, if the first section is at this offset
 unfoldable pub placed : ℕ → List (List Entry) → List TaskBody
@@ -93,13 +93,13 @@ placed at (es ∷ bodies) =
 
 section_back : (m : Limits) → Small m → m.own < max_tasks → (at : ℕ) (es : List Entry) (r : List ℕ) → BodyIn m es
     → section_at m at (section m.own (length es) (length (body_bytes es)) ++ (body_bytes es ++ r))
-    ≡ read (record { entries = es; start = body_start at; stop = body_start at + length (body_bytes es) })
+    ≡ Ok (record { entries = es; start = body_start at; stop = body_start at + length (body_bytes es) })
 unfolding section_at on_section section_body taken
 section_back m s o at es r i =
     let L : ℕ = length (body_bytes es) in
     let h : List ℕ = section m.own (length es) L in
     rw (
-      read-section short m.own (length es) L (body_bytes es ++ r) (omega arith) i.count i.size (omega (arith, length-append (body_bytes es) r)),
+      read-section m.own (length es) L (body_bytes es ++ r) (omega arith) i.count i.size (omega (arith, length-append (body_bytes es) r)),
       eq-eqb m.own m.own refl,
       drop_at h (body_bytes es ++ r) 12 (section-length m.own (length es) L),
       take_at (body_bytes es) r L refl,
@@ -108,7 +108,7 @@ section_back m s o at es r i =
     )
 
 sections_back : (tasks objects fields : ℕ) → tasks ≤ max_tasks → objects ≤ max_objects → fields ≤ max_fields → (t at : ℕ) (bodies : List (List Entry)) → t + length bodies ≤ max_tasks
-    → BodiesIn tasks objects fields t bodies → sections_of tasks objects fields (length bodies) t at (sections_bytes t bodies) ≡ read (placed at bodies)
+    → BodiesIn tasks objects fields t bodies → sections_of tasks objects fields (length bodies) t at (sections_bytes t bodies) ≡ Ok (placed at bodies)
 unfolding sections_of sections_bytes placed
 sections_back tasks objects fields ht ho hf t at [] h i = refl
 sections_back tasks objects fields ht ho hf t at (es ∷ bodies) h i =
@@ -183,7 +183,7 @@ unfolding sizes_ok
 sizes_ok_lem t n w a b c d e f = rw (within_test 1 max_tasks t a b, within_test 1 max_objects n c d, within_test 1 max_fields w e f)
 
 head_back : (r : Recording) (rest : List ℕ) → HeadIn r.tasks r.fields r.owners r.values
-    → head_at (head r.fields r.tasks r.owners r.values ++ rest) ≡ read (record { tasks = r.tasks; fields = r.fields; owners = r.owners; values = r.values })
+    → head_at (head r.fields r.tasks r.owners r.values ++ rest) ≡ Ok (record { tasks = r.tasks; fields = r.fields; owners = r.owners; values = r.values })
 unfolding head_at on_head head
 head_back r rest i =
     let n : ℕ = length r.owners in
@@ -193,7 +193,7 @@ head_back r rest i =
     let each : length r.values ≡ n * w = cells_are r.fields n i.value_each in
     rw (
       append_assoc,
-      read_head short r.fields r.tasks n (c ++ rest) i.few_fields (omega arith) i.few_objects (omega (arith, length-append c rest, head-objects-length w r.owners r.values each)),
+      read_head r.fields r.tasks n (c ++ rest) i.few_fields (omega arith) i.few_objects (omega (arith, length-append c rest, head-objects-length w r.owners r.values each)),
       drop_at (head_front r.fields r.tasks n) (c ++ rest) (length_of (head_kind_of r.fields)) (head-front-length r.fields r.tasks n),
       owners_back w r.owners r.values rest each,
       values_back w r.owners r.values rest each i.values_in,
@@ -212,7 +212,7 @@ entries_placed at [] = refl
 entries_placed at (es ∷ bodies) = ap (λ (l : List (List Entry)). es ∷ l) (entries_placed (body_start at + length (body_bytes es)) bodies)
 
 -- THE READ-BACK LAW
-pub parse_back : (r : Recording) → InRange r → parse (bytes_of r) ≡ read (record { recording = r; spans = spans_of r })
+pub parse_back : (r : Recording) → InRange r → parse (bytes_of r) ≡ Ok (record { recording = r; spans = spans_of r })
 unfolding parse sections_after bytes_of spans_of
 parse_back r i =
     let n : ℕ = length r.owners in
@@ -220,7 +220,7 @@ parse_back r i =
     let h : List ℕ = head f r.tasks r.owners r.values in
     let o = i.body_each in
     let few = i.head.few_tasks in
-    let q : sections_of r.tasks n f r.tasks 0 (head_length f n) (sections_bytes 0 r.bodies) ≡ read (placed (head_length f n) r.bodies) =
+    let q : sections_of r.tasks n f r.tasks 0 (head_length f n) (sections_bytes 0 r.bodies) ≡ Ok (placed (head_length f n) r.bodies) =
     rw o at (sections_back r.tasks n f few i.head.few_objects i.head.few_fields 0 (head_length f n) r.bodies (omega arith) i.bodies) in
     rw (
       head_back r (sections_bytes 0 r.bodies) i.head,
