@@ -1,13 +1,11 @@
 -- The scan for the first unmet ordering of a group that has been read: what it relies on at each point, and what it finds.
-use Rattle.std.specs.Prelude.{◌≡◌, cond, List, ℕ, ◌+◌, ◌*◌, ◌≤◌, ◌<◌, ltb, length, get_or}
+use Rattle.std.specs.Prelude.{Ok, None, ◌≡◌, cond, List, ℕ, ◌+◌, ◌*◌, ◌≤◌, ◌<◌, ltb, length, get_or}
 use Rattle.codec.specs.Limit.{max_tasks}
 use Rattle.entries.specs.declared.Limits.{Limits}
 use Rattle.entries.specs.OrderingAt.{ordering_at}
-use Rattle.entries.specs.Reading.{read}
 use Rattle.entries.specs.Recording.{Entry}
 use Rattle.pending.specs.declared.TaskRun.{TaskRun}
 use Rattle.pending.specs.declared.next.Look.{Look}
-use Rattle.pending.specs.declared.next.Next.TheVariants.{Held}
 use Rattle.pending.specs.Dones.{dones_of}
 use Rattle.pending.specs.Look.{group_at, Looks}
 use Rattle.pending.specs.Next.{judged}
@@ -28,7 +26,7 @@ pub record Ahead (m : Limits) (b dones : List ℕ) (from end place at : ℕ) : T
   pub few : m.tasks ≤ max_tasks
   pub within : end ≤ length b
   pub entry : Entry
-  pub reads : group_at m b place end ≡ read entry
+  pub reads : group_at m b place end ≡ Ok entry
   pub stands : at ≡ place + 8 * length entry.orderings
   pub same : (runs : List TaskRun) → DoneAll dones runs → judged runs place (group_at m b place end) ≡ judged runs from (group_at m b from end)
   pub passed : (runs : List TaskRun) → DoneAll dones runs → unmet_in runs place (group_at m b place end) ≡ unmet_in runs from (group_at m b from end)
@@ -48,7 +46,7 @@ Holds m b dones from end u = (runs : List TaskRun) → dones_of runs ≡ dones �
 pub record Reached (m : Limits) (b dones : List ℕ) (from end place at : ℕ) : Type 0 where
   pub holds : Holds m b dones from end (unmet_at b place at)
   pub ahead : Ahead m b dones from end place at
-  pub held : place < at → Looks dones from (group_at m b from end) Held
+  pub held : place < at → Looks dones from (group_at m b from end) (Ok None)
 
 -- how far the scan gets from an offset in any group that it has checked up to there
 abbrev pub Scanned : List ℕ → List ℕ → ℕ → ℕ → ℕ → Type 0

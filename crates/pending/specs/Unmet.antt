@@ -1,9 +1,9 @@
 -- What holds up an access (document 01, "Whole runs": "(S, s) is met once S has done s or more"): the first unmet ordering before it,
 -- with the offset of its record.
-use Rattle.std.specs.Prelude.{cond, List, [], ◌∷◌, ℕ, ◌+◌, leb}
+use Rattle.std.specs.Prelude.{Err, Ok, cond, List, [], ◌∷◌, ℕ, ◌+◌, leb}
 use Rattle.codec.specs.declared.Position.{Position}
 use Rattle.codec.specs.Kind.{ordering_kind, length_of}
-use Rattle.entries.specs.Reading.{Reading, refused, read}
+use Rattle.entries.specs.Reading.{Reading}
 use Rattle.entries.specs.Recording.{Entry}
 use Rattle.pending.specs.declared.TaskRun.{TaskRun}
 use Rattle.pending.specs.declared.Run.{Run}
@@ -22,8 +22,8 @@ unmet_of runs at (p ∷ ps) = cond (leb p.number (done_of runs p.task)) (unmet_o
 
 -- for an entry that starts at an offset
 unfoldable pub unmet_in : List TaskRun → ℕ → Reading Entry → Unmet
-unmet_in runs at (refused c) = none
-unmet_in runs at (read e) = unmet_of runs at e.orderings
+unmet_in runs at (Err c) = none
+unmet_in runs at (Ok e) = unmet_of runs at e.orderings
 
 -- for a task's next entry
 unfoldable pub unmet_next : Run → List ℕ → ℕ → Unmet

@@ -4,7 +4,6 @@ ghost use Rattle.codec.specs.Limit.{max_tasks};
 ghost use Rattle.pending.specs.Run.{task_at};
 ghost use Rattle.pending.specs.Dones.{dones_of};
 ghost use Rattle.pending.specs.FirstUnmet.{InGroup, Scanned, Looked};
-ghost use Rattle.pending.specs.Laws.Next.{refusal_of};
 ghost use Rattle.pending.specs.Look.{group_at, Opens};
 ghost use Rattle.pending.specs.Next.{next_of};
 
@@ -14,45 +13,29 @@ use codec::field::get16;
 use codec::kind::{ORDERING, length_of};
 use codec::limit::TASKS;
 use codec::read::is_ordering;
-use entries::entry::{Found, access_stands, entry_at, number_at, ordering_ok, source_at};
-use entries::{Checked, Limits};
+use entries::entry::{access_stands, entry_at, number_at, ordering_ok, source_at};
+use entries::{Limits, Refusal};
 
-// An access that may be done now, with the place after it; one that an ordering holds up; or records that are refused.
-#[derive(Clone, Copy)]
-pub enum Next {
-    Open { op: Op, next: usize },
-    Held,
-    Refused(Checked),
+// An access that may be done now, with the place after it.
+#[derive(Clone, Copy, Debug, PartialEq, Eq)]
+pub struct Open {
+    pub op: Op,
+    pub next: usize,
 }
 
-// What is found at a task's next group: what is next, and how far the scan got. `at` is the place of the access's record, `scan` the
-// place of the first unmet ordering before it, or `at` if all are met; both are 0 if the group is refused.
+// What is found at a task's next group: the access that may be done, none where an ordering holds it up, or why the records are refused; and how
+// far the scan got. `at` is the place of the access's record, `scan` the place of the first unmet ordering before it, or `at` if all are met; both
+// are 0 if the group is refused.
 #[derive(Clone, Copy)]
 pub struct Look {
-    pub next: Next,
+    pub next: Result<Option<Open>, Refusal>,
     pub scan: usize,
     pub at: usize,
 }
 
-// The reader's number and offset; 0 and 0 if an access was found.
-pub fn refusal(f: Found) -> Checked
-    ensures { result ≡ refusal_of f }
-{
-    match f {
-        Found::Refused(c) => c,
-        Found::Access {
-            op: _,
-            at: _,
-            next: _,
-        } => Checked {
-            number: 0,
-            offset: 0,
-        },
-    }
-}
-
 // The place of the first unmet ordering from `from` on, or `at`, the place of the access's record. There are only orderings up to that
 // record, and only their sources and numbers are read.
+// Kept: a `while` over places, since the place itself is the answer and a chain over chunks would compute it back from an index.
 pub fn first_unmet(bytes: &[u8], from: usize, at: usize, dones: &[usize; TASKS]) -> usize
     requires { InGroup bytes.now dones.now from at }
     ensures { Scanned bytes.now dones.now from at result }
@@ -80,25 +63,30 @@ pub fn look_at(
     requires { (limits.tasks ≤ max_tasks) × (end ≤ length bytes.now) }
     ensures { Looked limits bytes.now dones.now from end result }
 {
-    let f = entry_at(bytes, from, end, limits);
-    let Found::Access { op, at, next } = f else {
-        let c = refusal(f);
-        return Look {
-            next: Next::Refused(c),
-            scan: 0,
-            at: 0,
-        };
+    let found = match entry_at(bytes, from, end, limits) {
+        Ok(found) => found,
+        Err(refusal) => {
+            return Look {
+                next: Err(refusal),
+                scan: 0,
+                at: 0,
+            };
+        }
     };
+    let at = found.at;
     let scan = first_unmet(bytes, from, at, dones);
     if scan < at {
         return Look {
-            next: Next::Held,
+            next: Ok(None),
             scan,
             at,
         };
     }
     Look {
-        next: Next::Open { op, next },
+        next: Ok(Some(Open {
+            op: found.op,
+            next: found.next,
+        })),
         scan,
         at,
     }
@@ -107,6 +95,7 @@ pub fn look_at(
 // Whether the group between two places ends with an access that may be done. A caller who asks no more is answered at the first ordering that is
 // not met: nothing behind it is read. With two callers of `look_at` in one program the compiler calls it, and a replay by the ready word took 1.1
 // of its time.
+// Kept: a `while` over places, since the records of a group have different lengths.
 pub fn open_at(
     bytes: &[u8],
     from: usize,
@@ -140,16 +129,11 @@ pub fn open_at(
 pub fn dones_of(run: Run) -> [usize; TASKS]
     ensures { result ≡ dones_of run.runs }
 {
-    let mut dones = [0usize; TASKS];
-    for t in 0..TASKS {
-        let x = run.runs[t];
-        dones[t] = x.done;
-    }
-    dones
+    run.runs.map(|x| x.done)
 }
 
 // The next group of a task, with the run's T, N and number of fields.
-pub fn next_of(run: Run, bytes: &[u8], task: usize) -> Next
+pub fn next_of(run: Run, bytes: &[u8], task: usize) -> Result<Option<Open>, Refusal>
     requires { (run.tasks ≤ max_tasks) × (task < max_tasks) × ((task_at run.runs task).end ≤ length bytes.now) }
     ensures { result ≡ next_of run bytes.now task }
 {
@@ -161,6 +145,5 @@ pub fn next_of(run: Run, bytes: &[u8], task: usize) -> Next
         own: task,
     };
     let dones = dones_of(run);
-    let k = look_at(bytes, x.place, x.end, limits, &dones);
-    k.next
+    look_at(bytes, x.place, x.end, limits, &dones).next
 }

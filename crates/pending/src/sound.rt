@@ -6,24 +6,18 @@ use crate::{Run, TaskRun};
 use codec::limit::{FIELDS, OBJECTS, TASKS, within};
 
 // Done is at most the section's count, the place at most the end, the end within the bytes.
+#[tactic(auto, unfolding(crate::specs::Sound::task_sound))]
 fn task_sound(x: TaskRun, size: usize) -> bool
     ensures { result ≡ task_sound size x }
 {
-    if x.count < x.done {
-        return false;
-    }
-    if x.end < x.place {
-        return false;
-    }
-    x.end <= size
+    x.done <= x.count && x.place <= x.end && x.end <= size
 }
 
 // Whether a run over `size` bytes is sound (document 01); if not, the number is 17.
 pub fn sound(run: Run, size: usize) -> bool
     ensures { result ≡ sound_of run size }
 {
-    let tasks = run.tasks;
-    if !within(1, TASKS, tasks) {
+    if !within(1, TASKS, run.tasks) {
         return false;
     }
     if !within(1, OBJECTS, run.objects) {
@@ -32,9 +26,8 @@ pub fn sound(run: Run, size: usize) -> bool
     if FIELDS < run.fields {
         return false;
     }
-    for t in 0..tasks {
-        let x = run.runs[t];
-        if !task_sound(x, size) {
+    for t in 0..run.tasks {
+        if !task_sound(run.runs[t], size) {
             return false;
         }
     }

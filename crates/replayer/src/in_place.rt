@@ -19,17 +19,19 @@ pub struct Step {
 }
 
 // The answer of a step without its run.
-fn shown(s: Stepped) -> Step
-    ensures { result ≡ shown_of s }
-{
-    Step {
-        number: s.number,
-        offset: s.offset,
-        kind: s.kind,
-        object: s.object,
-        field: s.field,
-        value: s.value,
-        access: s.access,
+impl From<Stepped> for Step {
+    fn from(s: Stepped) -> Step
+        ensures { result ≡ shown_of s }
+    {
+        Step {
+            number: s.number,
+            offset: s.offset,
+            kind: s.kind,
+            object: s.object,
+            field: s.field,
+            value: s.value,
+            access: s.access,
+        }
     }
 }
 
@@ -41,5 +43,5 @@ pub fn step_in_place(run: &mut Run, bytes: &[u8], memory: &mut [u32], task: usiz
 {
     let s = step(*run, bytes, memory, task);
     *run = s.run;
-    shown(s)
+    Step::from(s)
 }

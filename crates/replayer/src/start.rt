@@ -1,11 +1,13 @@
 // What opening sets: the memory to the starting values, each task to the start of its body.
 ghost use Rattle.std.specs.Prelude.{◌≡◌};
+ghost use Rattle.codec.specs.Reason.{number_of};
 ghost use Rattle.replayer.specs.OpenOf.{starts_of, begun_of, refused_open};
 ghost use Rattle.replayer.specs.OpenedOf.{counted};
 ghost use Rattle.pending.specs.Run.{blank_tasks};
 
 use crate::Opened;
-use codec::limit::{TASKS, least};
+use codec::limit::TASKS;
+use codec::number::Reason;
 use pending::{Run, TaskRun};
 use reader::Span;
 use reader::layout::Layout;
@@ -27,7 +29,7 @@ fn starts(spans: [Span; TASKS], tasks: usize) -> [TaskRun; TASKS]
     ensures { result ≡ starts_of spans tasks }
 {
     let mut runs = blank_tasks();
-    let few = least(tasks, TASKS);
+    let few = tasks.min(TASKS);
     for t in 0..few {
         let s = spans[t];
         let x = TaskRun {
@@ -56,8 +58,8 @@ pub fn started(l: Layout) -> Run
 }
 
 // A refused opening: the blank run.
-pub(crate) fn refused(number: u32, offset: usize) -> Opened
-    ensures { result ≡ counted (refused_open number offset) 0 }
+pub(crate) fn refused(reason: Reason, offset: usize) -> Opened
+    ensures { result ≡ counted (refused_open (number_of reason) offset) 0 }
 {
     let runs = blank_tasks();
     let run = Run {
@@ -67,7 +69,7 @@ pub(crate) fn refused(number: u32, offset: usize) -> Opened
         runs,
     };
     Opened {
-        number,
+        number: reason.number(),
         offset,
         records: 0,
         run,

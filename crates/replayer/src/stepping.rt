@@ -1,47 +1,48 @@
 // What a step does: the checks before the bytes, the access on the memory, the run's change, and the answers.
-ghost use Rattle.std.specs.Prelude.{◌≡◌, ◌+◌, ◌<◌, ◌≤◌};
+ghost use Rattle.std.specs.Prelude.{◌≡◌, ◌+◌, ◌<◌, ◌≤◌, get_or};
 ghost use Rattle.codec.specs.Encode.{op_length};
 ghost use Rattle.codec.specs.Limit.{max_tasks};
 ghost use Rattle.pending.specs.Run.{done_of, moved_of};
 ghost use Rattle.replayer.specs.Memory.{value_of, performed, agrees as agrees_with};
-ghost use Rattle.replayer.specs.StepOf.{refused_step, early_number, record_at};
-ghost use Rattle.replayer.specs.Laws.StepOf.{late_refusal};
+ghost use Rattle.codec.specs.Reason.{number_of};
+ghost use Rattle.replayer.specs.StepOf.{refused_step, early_number, number_in, record_at};
+ghost use Rattle.replayer.specs.Laws.StepOf.{due};
 
 use crate::Stepped;
 use codec::Op;
 use codec::cell::cells_of;
 use codec::kind::{length_of, valued_read, writes};
-use codec::number::{ENTRIES, FINISHED, HELD, NO_TASK, UNSOUND};
-use entries::Checked;
-use pending::next::Next;
+use codec::number::Reason;
+use entries::Refusal;
+use pending::next::Open;
 use pending::sound::sound;
 use pending::{Run, TaskRun};
 
-// 17, 3, 5, 15, or 0 if none of them applies.
-pub(crate) fn early_number(run: Run, size: usize, entries: usize, task: usize) -> u32
-    ensures { result ≡ early_number run size entries task }
+// The checks before the bytes: 17, 3, 5, 15.
+pub(crate) fn check_early(run: Run, size: usize, entries: usize, task: usize) -> Result<(), Reason>
+    ensures { number_in result ≡ early_number run size entries task }
 {
     if !sound(run, size) {
-        return UNSOUND;
+        return Err(Reason::Unsound);
     }
     if entries != cells_of(run.fields, run.objects) {
-        return ENTRIES;
+        return Err(Reason::Entries);
     }
     if run.tasks <= task {
-        return NO_TASK;
+        return Err(Reason::NoTask);
     }
     let x = run.runs[task];
     if x.count <= x.done {
-        return FINISHED;
+        return Err(Reason::Finished);
     }
-    0
+    Ok(())
 }
 
-pub(crate) fn refused(run: Run, number: u32, offset: usize) -> Stepped
-    ensures { result ≡ refused_step run number offset }
+pub(crate) fn refused(run: Run, reason: Reason, offset: usize) -> Stepped
+    ensures { result ≡ refused_step run (number_of reason) offset }
 {
     Stepped {
-        number,
+        number: reason.number(),
         offset,
         kind: 0,
         object: 0,
@@ -52,35 +53,28 @@ pub(crate) fn refused(run: Run, number: u32, offset: usize) -> Stepped
     }
 }
 
-// Why an access is not done: the reader's number and offset, 16, or 0 if nothing holds it up.
-pub(crate) fn late_refusal(n: Next) -> Checked
-    ensures { result ≡ late_refusal n }
+// The access that may be done, or why none is: the reader's refusal, or 16.
+pub(crate) fn due(next: Result<Option<Open>, Refusal>) -> Result<Open, Refusal>
+    ensures { result ≡ due next }
 {
-    match n {
-        Next::Open { op: _, next: _ } => Checked {
-            number: 0,
-            offset: 0,
-        },
-        Next::Held => Checked {
-            number: HELD,
-            offset: 0,
-        },
-        Next::Refused(c) => c,
-    }
+    next?.ok_or(Refusal {
+        reason: Reason::Held,
+        offset: 0,
+    })
 }
 
-// Whether the memory holds the value of a read's record in its cell; true if the record holds none. Past the memory's end there is 0.
+// The value of a cell, 0 past the memory's end.
+pub fn held(memory: &[u32], cell: usize) -> u32
+    ensures { result ≡ get_or memory.now cell 0 }
+{
+    memory.get(cell).copied().unwrap_or(0)
+}
+
+// Whether the memory holds the value of a read's record in its cell; true if the record holds none.
 pub fn agrees(op: Op, cell: usize, memory: &[u32]) -> bool
     ensures { result ≡ agrees_with cell op memory.now }
 {
-    if !valued_read(op.kind) {
-        return true;
-    }
-    let value = op.value;
-    if cell < memory.len() {
-        return memory[cell] == value;
-    }
-    0 == value
+    !valued_read(op.kind) || held(memory, cell) == op.value
 }
 
 // The offset of an access's record, which ends at `next`.
@@ -96,37 +90,26 @@ pub fn perform(op: Op, cell: usize, memory: &mut [u32]) -> u32
     ensures value { result ≡ value_of cell op memory.old }
     ensures memory_after { memory.new ≡ performed cell op memory.old }
 {
-    let value = op.value;
     if writes(op.kind) {
         if cell < memory.len() {
-            memory[cell] = value;
+            memory[cell] = op.value;
         }
-        return value;
+        return op.value;
     }
-    if cell < memory.len() {
-        return memory[cell];
-    }
-    0
+    held(memory, cell)
 }
 
 // The task moves on to the place `next`, with one more access done, `access` in all; no other task changes.
+#[tactic(auto, unfolding(pending::specs::Run::moved_of))]
 pub(crate) fn moved(run: Run, task: usize, next: usize, access: usize) -> Run
     requires { (task < max_tasks) × (access ≡ done_of run.runs task + 1) }
     ensures { result ≡ moved_of run task next }
 {
     let mut runs = run.runs;
-    let x = runs[task];
-    let y = TaskRun {
+    runs[task] = TaskRun {
         place: next,
-        end: x.end,
         done: access,
-        count: x.count,
+        ..runs[task]
     };
-    runs[task] = y;
-    Run {
-        tasks: run.tasks,
-        objects: run.objects,
-        fields: run.fields,
-        runs,
-    }
+    Run { runs, ..run }
 }

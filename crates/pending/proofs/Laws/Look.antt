@@ -3,11 +3,8 @@ use Rattle.std.specs.Prelude.{◌≡◌, Bool, List, ℕ}
 use Rattle.entries.specs.declared.Limits.{Limits}
 use Rattle.pending.specs.declared.Run.{Run}
 use Rattle.pending.specs.declared.TaskRun.{TaskRun}
-use Rattle.pending.specs.declared.next.Next.{Next}
-use Rattle.pending.specs.Dones.{dones_of}
 use Rattle.pending.specs.FirstUnmet.{Holds}
-use Rattle.pending.specs.Next.{entry_next, next_of, is_open}
-use Rattle.pending.specs.Run.{task_at, limits_of}
+use Rattle.pending.specs.Next.{Next, entry_next, next_of, is_open}
 use Rattle.pending.specs.Look.{group_at, Looks, Opens}
 use Rattle.pending.specs.Unmet.{Unmet, unmet_next}
 use Rattle.pending.specs.Laws.Look.{OneTask}

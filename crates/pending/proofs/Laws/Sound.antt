@@ -1,5 +1,5 @@
 -- Laws of `Sound`.
-use Rattle.std.specs.Prelude.{◌≡◌, true, ℕ, ◌≤◌, ◌<◌, leb}
+use Rattle.std.specs.Prelude.{◌≡◌, true, ℕ, leb}
 use Rattle.std.proofs.Common.{leb-true, le-leb}
 use Rattle.codec.specs.Laws.Decide.{both_pass}
 use Rattle.codec.specs.Limit.{max_tasks, max_objects, max_fields, is_within}

@@ -1,7 +1,5 @@
 -- What an accepted step changes in a run: one task's place and number of accesses done, and nothing else.
-use Rattle.std.specs.Prelude.{◌≡◌, ℕ, ◌≤◌, ◌<◌, length}
-use Rattle.std.proofs.Common.{◌∙◌}
-use Rattle.std.proofs.Math.Decide.{ℕ_discrete}
+use Rattle.std.specs.Prelude.{◌≡◌, length}
 use Rattle.codec.specs.Limit.{max_tasks}
 use Rattle.pending.specs.declared.Run.{Run}
 

@@ -1,31 +1,27 @@
 -- A run on its way through a recording: of each task's body all is left but the accesses it has done. It is so at the start and after each
 -- access of a ready task.
-use Rattle.std.specs.Prelude.{◌≡◌, true, List, [], ◌∷◌, ℕ, suc, ◌+◌, ◌<◌, length, get_or, drop}
+use Rattle.std.specs.Prelude.{Ok, ◌≡◌, List, [], ◌∷◌, ℕ, suc, ◌+◌, ◌<◌, length, get_or, drop}
 use Rattle.std.proofs.Common.{sym, ap, ◌∙◌, add-one, arith, drop-cons}
 use Rattle.std.proofs.Math.Decide.{ℕ_discrete}
 use Rattle.codec.specs.declared.Op.{Op}
 use Rattle.codec.specs.Limit.{max_tasks}
 use Rattle.entries.specs.Bytes.{entry_length}
-use Rattle.entries.specs.Reading.{read}
 use Rattle.entries.specs.Recording.{Entry, no_entry}
 use Rattle.reader.specs.Parse.{Parsed, parse}
 use Rattle.pending.specs.declared.Run.{Run}
 use Rattle.pending.specs.declared.TaskRun.{TaskRun}
-use Rattle.pending.specs.declared.next.Next.TheVariants.{Open}
-use Rattle.pending.specs.Laws.Moved.{Shaped}
 use Rattle.pending.proofs.Laws.Moved.{moved_shaped, moved-own, moved_other, moved-tasks, moved_sound}
 use Rattle.pending.proofs.Laws.Next.{next-entry, next-within}
 use Rattle.pending.proofs.Laws.Sound.{sound_facts, sound_test}
-use Rattle.pending.specs.Next.{entry_next, next_of}
+use Rattle.pending.specs.Next.{may_go, entry_next, next_of}
 use Rattle.pending.specs.Run.{task_at, done_of, moved_of}
-use Rattle.pending.specs.Sound.{sound_of}
 use Rattle.replayer.specs.OpenOf.{opened_run}
 use Rattle.replayer.specs.Laws.Left.{Left}
 use Rattle.replayer.proofs.Laws.Left.{left-entry, left-own, left_other, left-opened}
 use Rattle.replayer.proofs.Laws.OpenOf.{opened-stands}
 use Rattle.replayer.specs.Laws.Along.{Along}
 
-pub along_opened : (b : List ℕ) (p : Parsed) → parse b ≡ read p → Along b p.recording.bodies (opened_run p)
+pub along_opened : (b : List ℕ) (p : Parsed) → parse b ≡ Ok p → Along b p.recording.bodies (opened_run p)
 along_opened b p e =
     let s = opened-stands b p e in
     record {
@@ -43,10 +39,10 @@ module _ (b : List ℕ) (bodies : List (List Entry)) (r : Run) (w : Along b bodi
   left-first : Left r b t (next_entry ∷ drop (suc (done_of r.runs t)) (get_or bodies t []))
   left-first = rw (← drop-cons (get_or bodies t []) (done_of r.runs t) no_entry (omega (arith, w.count t h))) (w.left t h)
 
-  pub along_entry : entry_next r b t ≡ read (get_or (get_or bodies t []) (done_of r.runs t) no_entry)
+  pub along_entry : entry_next r b t ≡ Ok (get_or (get_or bodies t []) (done_of r.runs t) no_entry)
   along_entry = left-entry r b t _ _ left-first
 
-  module _ (op : Op) (next : ℕ) (o : next_of r b t ≡ Open op next) where
+  module _ (op : Op) (next : ℕ) (o : next_of r b t ≡ may_go op next) where
     few : t < max_tasks
     few = omega (arith, (sound_facts r (length b) w.sound).few_tasks)
 

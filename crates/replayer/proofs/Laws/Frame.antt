@@ -1,10 +1,9 @@
 -- What steps leave alone in a run: T, N, each body's end and count, and all of what is past T. So a run is known by the accesses that are
 -- done: two runs after any steps from one run are equal if each task has the same ones left.
-use Rattle.std.specs.Prelude.{◌≡◌, refl, true, List, ℕ, ◌≤◌, ◌<◌, length}
+use Rattle.std.specs.Prelude.{◌≡◌, refl, true, List, ℕ, ◌<◌, length}
 use Rattle.std.proofs.Common.{sym, ap, ◌∙◌, arith, ext_get_or}
 use Rattle.std.proofs.Math.Decide.{ℕ_discrete, dec_lt}
 use Rattle.codec.specs.Limit.{max_tasks}
-use Rattle.entries.specs.Recording.{Entry}
 use Rattle.pending.specs.declared.Run.{Run}
 use Rattle.pending.specs.declared.TaskRun.{TaskRun}
 use Rattle.pending.specs.Laws.Moved.{Shaped}
@@ -13,7 +12,6 @@ use Rattle.pending.proofs.Laws.Sound.{sound_facts}
 use Rattle.pending.specs.Run.{blank_task, task_at, done_of, limits_of, moved_of, cell_count}
 use Rattle.pending.specs.Sound.{sound_of}
 use Rattle.replayer.specs.declared.Stepped.{Stepped}
-use Rattle.replayer.specs.Laws.Left.{Left}
 use Rattle.replayer.proofs.Laws.Left.{left-place}
 use Rattle.replayer.specs.Laws.StepOf.{Turned, taken, turned, differing}
 use Rattle.replayer.proofs.Laws.StepOf.{step_goes}

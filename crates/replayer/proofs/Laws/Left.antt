@@ -1,8 +1,8 @@
 -- What is left of a task's body, as the accesses that its bytes read as: all of them at the start, one less after each step of that task,
 -- unchanged by a step of another. The next entry is the first of them.
-use Rattle.std.specs.Prelude.{◌≡◌, refl, List, [], ◌∷◌, ℕ, ◌+◌, ◌≤◌, ◌<◌, length, get_or, drop}
+use Rattle.std.specs.Prelude.{Err, Ok, ◌≡◌, refl, List, [], ◌∷◌, ℕ, ◌+◌, ◌≤◌, ◌<◌, length, get_or, drop}
 use Rattle.std.proofs.Common.{sym, ap, ◌∙◌, arith}
-use Rattle.codec.specs.Number.{in_body}
+use Rattle.codec.specs.declared.number.Reason.TheVariants.{InBody}
 use Rattle.codec.specs.Limit.{max_tasks}
 use Rattle.entries.specs.declared.Limits.{Limits}
 use Rattle.reader.specs.Laws.Bodies.{parse-bodies}
@@ -15,7 +15,7 @@ use Rattle.reader.specs.Parse.{Parsed, parse}
 use Rattle.entries.specs.Part.{part}
 use Rattle.entries.proofs.Laws.EntryCase.{entry_entered}
 use Rattle.entries.proofs.Laws.Part.{part_length, part-drop}
-use Rattle.entries.specs.Reading.{Reading, refused, read, stop, mapped, and_then}
+use Rattle.entries.specs.Reading.{Reading, stop, mapped, and_then}
 use Rattle.entries.specs.Recording.{Entry}
 use Rattle.pending.specs.declared.TaskRun.{TaskRun}
 use Rattle.pending.specs.declared.Run.{Run}
@@ -28,30 +28,30 @@ use Rattle.replayer.proofs.Laws.OpenOf.{opened-stands}
 use Rattle.replayer.specs.Laws.Left.{First, Left, LeftOf, LeftWhole}
 
 first_of : (m : Limits) (at : ℕ) (e : Entry) (es : List Entry) (l : List ℕ) (y : Reading Entry)
-    → and_then y (λ f. mapped (λ fs. f ∷ fs) (body_entries m (at + entry_length f) (drop (entry_length f) l))) ≡ read (e ∷ es)
-    → (y ≡ read e) × (body_entries m (at + entry_length e) (drop (entry_length e) l) ≡ read es)
-first_of m at e es l (refused c) h = absurd (let z : ◌≡◌ {A = ℕ} 0 1 = cc in omega arith)
-first_of m at e es l (read f) h = go (body_entries m (at + entry_length f) (drop (entry_length f) l)) refl h
+    → and_then y (λ f. mapped (λ fs. f ∷ fs) (body_entries m (at + entry_length f) (drop (entry_length f) l))) ≡ Ok (e ∷ es)
+    → (y ≡ Ok e) × (body_entries m (at + entry_length e) (drop (entry_length e) l) ≡ Ok es)
+first_of m at e es l (Err c) h = absurd (let z : ◌≡◌ {A = ℕ} 0 1 = cc in omega arith)
+first_of m at e es l (Ok f) h = go (body_entries m (at + entry_length f) (drop (entry_length f) l)) refl h
   where
-    go : (z : Reading (List Entry)) → body_entries m (at + entry_length f) (drop (entry_length f) l) ≡ z → mapped (λ fs. f ∷ fs) z ≡ read (e ∷ es)
-        → (read f ≡ read e) × (body_entries m (at + entry_length e) (drop (entry_length e) l) ≡ read es)
-    go (refused c) q k = absurd (let z : ◌≡◌ {A = ℕ} 0 1 = cc in omega arith)
-    go (read fs) q k =
+    go : (z : Reading (List Entry)) → body_entries m (at + entry_length f) (drop (entry_length f) l) ≡ z → mapped (λ fs. f ∷ fs) z ≡ Ok (e ∷ es)
+        → ◌≡◌ {A = Reading Entry} (Ok f) (Ok e) × (body_entries m (at + entry_length e) (drop (entry_length e) l) ≡ Ok es)
+    go (Err c) q k = absurd (let z : ◌≡◌ {A = ℕ} 0 1 = cc in omega arith)
+    go (Ok fs) q k =
         let a : f ≡ e = cc in
         let b : fs ≡ es = cc in
-        (ap read a, rw (← a, ← b) q)
+        (ap Ok a, rw (← a, ← b) q)
 
 left-first : (m : Limits) (x : TaskRun) (b : List ℕ) (e : Entry) (es : List Entry) → LeftOf m x b (e ∷ es) → First m x b e es
 left-first m x b e es h = go (part x.place x.end b) refl
   where
     go : (l : List ℕ) → part x.place x.end b ≡ l → First m x b e es
     go [] q = absurd (
-        let y : read [] ≡ read (e ∷ es) = sym (body_end m x.place (part x.place x.end b) q) ∙ h in
+        let y : Ok [] ≡ Ok (e ∷ es) = sym (body_end m x.place (part x.place x.end b) q) ∙ h in
         let z : ◌≡◌ {A = ℕ} 0 1 = cc in
         omega arith)
     go (c ∷ l) q =
         let k : 0 < length (part x.place x.end b) = rw q (omega arith) in
-        let w = first_of m x.place e es (part x.place x.end b) (entry_at m (stop in_body x.place) x.place (part x.place x.end b))
+        let w = first_of m x.place e es (part x.place x.end b) (entry_at m (stop InBody x.place) x.place (part x.place x.end b))
         (sym (body_step m x.place (part x.place x.end b) k) ∙ h) in
         record { entry = w.0; rest = rw (part-drop (entry_length e) x.place x.end b) at w.1 }
 
@@ -59,19 +59,19 @@ left-first m x b e es h = go (part x.place x.end b) refl
 left-none : (m : Limits) (x : TaskRun) (b : List ℕ) → x.place ≤ x.end → x.end ≤ length b → LeftOf m x b [] → x.place ≡ x.end
 left-none m x b p e h = go (part x.place x.end b) refl
   where
-    none : (l : List ℕ) (y : Reading Entry) → and_then y (λ f. mapped (λ fs. f ∷ fs) (body_entries m (x.place + entry_length f) (drop (entry_length f) l))) ≡ read [] → ⊥
-    none l (refused c) k = let z : ◌≡◌ {A = ℕ} 0 1 = cc in omega arith
-    none l (read f) k = some (body_entries m (x.place + entry_length f) (drop (entry_length f) l)) k
+    none : (l : List ℕ) (y : Reading Entry) → and_then y (λ f. mapped (λ fs. f ∷ fs) (body_entries m (x.place + entry_length f) (drop (entry_length f) l))) ≡ Ok [] → ⊥
+    none l (Err c) k = let z : ◌≡◌ {A = ℕ} 0 1 = cc in omega arith
+    none l (Ok f) k = some (body_entries m (x.place + entry_length f) (drop (entry_length f) l)) k
       where
-        some : (z : Reading (List Entry)) → mapped (λ fs. f ∷ fs) z ≡ read [] → ⊥
-        some (refused c) q = let z : ◌≡◌ {A = ℕ} 0 1 = cc in omega arith
-        some (read fs) q = let z : ◌≡◌ {A = ℕ} 0 1 = cc in omega arith
+        some : (z : Reading (List Entry)) → mapped (λ fs. f ∷ fs) z ≡ Ok [] → ⊥
+        some (Err c) q = let z : ◌≡◌ {A = ℕ} 0 1 = cc in omega arith
+        some (Ok fs) q = let z : ◌≡◌ {A = ℕ} 0 1 = cc in omega arith
 
     go : (l : List ℕ) → part x.place x.end b ≡ l → x.place ≡ x.end
     go [] q = omega (arith, ap length q, part_length x.place x.end b e)
     go (c ∷ l) q =
         let k : 0 < length (part x.place x.end b) = rw q (omega arith) in
-        absurd (none (part x.place x.end b) (entry_at m (stop in_body x.place) x.place (part x.place x.end b)) (sym (body_step m x.place (part x.place x.end b) k) ∙ h))
+        absurd (none (part x.place x.end b) (entry_at m (stop InBody x.place) x.place (part x.place x.end b)) (sym (body_step m x.place (part x.place x.end b) k) ∙ h))
 
 -- what is left tells a task's place
 pub left-place : (es : List Entry) (m : Limits) (x y : TaskRun) (b : List ℕ) → x.end ≡ y.end → x.place ≤ x.end → y.place ≤ y.end → x.end ≤ length b
@@ -88,7 +88,7 @@ left-place (f ∷ es) m x y b e p q l h k =
 
 module _ (r : Run) (b : List ℕ) (t : ℕ) where
   -- the next entry is the first that is left
-  pub left-entry : (e : Entry) (es : List Entry) → Left r b t (e ∷ es) → entry_next r b t ≡ read e
+  pub left-entry : (e : Entry) (es : List Entry) → Left r b t (e ∷ es) → entry_next r b t ≡ Ok e
   unfolding entry_next
   left-entry e es h = (left-first (limits_of r t) (task_at r.runs t) b e es h).entry
 
@@ -102,7 +102,7 @@ module _ (r : Run) (b : List ℕ) (t : ℕ) where
   unfolding moved_of
   left_other u next es d h = rw (moved_other r u next t d) h
 
-pub left-opened : (b : List ℕ) (p : Parsed) → parse b ≡ read p → (t : ℕ) → t < p.recording.tasks → LeftWhole b p t
+pub left-opened : (b : List ℕ) (p : Parsed) → parse b ≡ Ok p → (t : ℕ) → t < p.recording.tasks → LeftWhole b p t
 left-opened b p e t h =
     let k : task_at (opened_run p).runs t ≡ start_of (get_or p.spans t no_span) = (opened-stands b p e).task t h in
     record { left = rw k (parse-bodies b p e t h).reads; count = rw k (parse-bodies b p e t h).accesses }

@@ -1,7 +1,8 @@
 -- One pass of each loop of the opening, and the opening as the code does it.
-use Rattle.std.specs.Prelude.{◌≡◌, List, ℕ, zero, suc, ◌+◌, ◌-◌, ◌<◌, min, get_or, set}
+use Rattle.codec.specs.Reason.{number_of}
+use Rattle.std.specs.Prelude.{Err, Ok, ◌≡◌, List, ℕ, zero, suc, ◌+◌, ◌-◌, ◌<◌, min, get_or, set}
 use Rattle.std.proofs.Math.Path.{refl}
-use Rattle.std.proofs.Common.{sym, ◌∙◌, add-one, arith}
+use Rattle.std.proofs.Common.{ap₂, sym, ◌∙◌, add-one, arith}
 use Rattle.std.proofs.Math.Decide.{dec_lt}
 use Rattle.std.proofs.Math.ListN.{length}
 use Rattle.std.proofs.Math.Seq.{set_out}
@@ -9,18 +10,18 @@ use borrow.Author.Tests.{eq-eqb, ne_eqb}
 use Rattle.reader.specs.declared.Span.{Span}
 use Rattle.reader.specs.declared.layout.Layout.{Layout}
 use Rattle.reader.specs.Calls.{no_span}
-use Rattle.reader.specs.Laws.Laid.{Laid, laid_read, laid_refused, Valued, parse-valued}
+use Rattle.reader.specs.Laws.Laid.{Laid, Valued, parse-valued}
+use Rattle.reader.specs.Laws.Located.{Reads, Refuses, reads, refuses}
+use Rattle.entries.specs.declared.Refusal.{Refusal}
 use Rattle.reader.specs.Layout.{layout_of}
 use Rattle.reader.specs.Parse.{Parsed, parse}
-use Rattle.reader.specs.Laws.Numbered.{parse-numbered}
-use Rattle.entries.specs.Reading.{Reading, refused, read}
 use Rattle.reader.specs.Starting.{starting_in}
 use Rattle.reader.specs.Laws.Starting.{starting_there, facts_fit}
-use Rattle.codec.specs.Number.{entries as wrong_length, ByReader}
+use Rattle.codec.specs.Number.{entries as wrong_length}
 use Rattle.codec.specs.Limit.{max_tasks}
 use Rattle.pending.specs.Run.{blank_tasks}
 use Rattle.replayer.proofs.Laws.OpenOf.{starts-length}
-use Rattle.replayer.specs.OpenOf.{start_of, starts_of, begun_of, opened_run, refused_open, on_parse, open_of}
+use Rattle.replayer.specs.OpenOf.{start_of, starts_of, begun_of, opened_run, on_parse, open_of}
 use Rattle.replayer.specs.OpenedOf.{records_for}
 use Rattle.codec.specs.Cell.{cells_of}
 use Rattle.reader.specs.Laws.Standing.{Standing, parse-stands}
@@ -53,56 +54,38 @@ unfolding starts_of
 starts-same a b zero h = refl
 starts-same a b (suc n) h = rw (h n (omega arith), starts-same a b n (λ t k. h t (omega arith)))
 
--- the run at the start of a layout is the recording's
-pub begun_opened : (b : List ℕ) (p : Parsed) (l : Layout) → l ≡ layout_of (parse b) → parse b ≡ read p → begun_of l ≡ opened_run p
-begun_opened b p l e q =
-    let w : Laid p l = rw e (laid_read b p q) in
-    rw (w.tasks, w.objects, w.fields, starts-same l.spans p.spans p.recording.tasks w.span)
-
-module _ (b memory : List ℕ) (l : Layout) (e : l ≡ layout_of (parse b)) where
-  pub open_bytes : (l.number ≡ 0 → ⊥) → Refusing b memory l.number l.offset
+module _ (b memory : List ℕ) where
+  pub open_bytes : (c : Refusal) → Err c ≡ layout_of (parse b) → Refusing b memory (number_of c.reason) c.offset
   unfolding open_of on_parse records_for
-  open_bytes h = go (parse b) refl
-    where
-      go : (x : Reading Parsed) → parse b ≡ x → Refusing b memory l.number l.offset
-      go (refused c) q =
-          let n : l.number ≡ c.number = rw (e, q) (laid_refused c).0 in
-          let o : l.offset ≡ c.offset = rw (e, q) (laid_refused c).1 in
-          record { answer = rw (q, n, o); records = rw q; kept = rw q }
-      go (read p) q = absurd (h (rw e (laid_read b p q).number))
+  open_bytes c e = let w : Refuses b c = refuses b c e in record { answer = rw w.is; records = rw w.is; kept = rw w.is }
 
-  pub open_length : l.number ≡ 0 → (length memory ≡ cells_of l.fields l.objects → ⊥) → Refusing b memory wrong_length 0
-  unfolding open_of on_parse records_for
-  open_length z h = go (parse b) refl
-    where
-      go : (x : Reading Parsed) → parse b ≡ x → Refusing b memory wrong_length 0
-      go (refused c) q = absurd (
-          let n : l.number ≡ c.number = rw (e, q) (laid_refused c).0 in
-          let p : ByReader c.number = rw q at (parse-numbered b) in
-          omega (arith, p.0))
-      go (read p) q =
-          let w : Laid p l = rw e (laid_read b p q) in
-          let d = ne_eqb (length memory) (cells_of p.recording.fields (length p.recording.owners)) (λ k. h (rw (w.fields, w.objects) k)) in
-          record { answer = rw (q, d); records = rw (q, d); kept = rw (q, d) }
+  module _ (l : Layout) (e : Ok l ≡ layout_of (parse b)) where
+    -- the run at the start of a layout is the recording's
+    begun_opened : (p : Parsed) → Laid p l → begun_of l ≡ opened_run p
+    begun_opened p w = rw (w.tasks, w.objects, w.fields, starts-same l.spans p.spans p.recording.tasks w.span)
 
-  pub open_opens : l.number ≡ 0 → length memory ≡ cells_of l.fields l.objects → Opening b memory l
-  unfolding open_of on_parse records_for
-  open_opens z h = go (parse b) refl
-    where
-      go : (x : Reading Parsed) → parse b ≡ x → Opening b memory l
-      go (refused c) q = absurd (
-          let n : l.number ≡ c.number = rw (e, q) (laid_refused c).0 in
-          let p : ByReader c.number = rw q at (parse-numbered b) in
-          omega (arith, p.0))
-      go (read p) q =
-          let w : Laid p l = rw e (laid_read b p q) in
-          let v : Valued b p = parse-valued b p q in
-          let s : Standing b p = parse-stands b p q in
-          let n : length memory ≡ cells_of p.recording.fields (length p.recording.owners) = rw (w.fields, w.objects) at h in
-          let d = eq-eqb (length memory) (cells_of p.recording.fields (length p.recording.owners)) n in
-          let f = facts_fit p.recording.fields (length p.recording.owners) (length b) (length memory) (record { few_fields = s.few_fields; few_objects = s.few_objects; within = v.within; cells = n }) in
-          record {
-            answer = rw (q, d, begun_opened b p l e q);
-            records = rw (q, d, w.records);
-            values = rw (w.fields, w.objects, starting_there p.recording.fields (length p.recording.owners) b memory f, q, d) (sym v.values);
-          }
+    pub open_length : (length memory ≡ cells_of l.fields l.objects → ⊥) → Refusing b memory wrong_length 0
+    unfolding open_of on_parse records_for
+    open_length h =
+        let w : Reads b l = reads b l e in
+        let p = w.parsed in
+        let d = ne_eqb (length memory) (cells_of p.recording.fields (length p.recording.owners)) (λ k. h (k ∙ sym w.cells)) in
+        record { answer = rw (w.is, d); records = rw (w.is, d); kept = rw (w.is, d) }
+
+    pub open_opens : length memory ≡ cells_of l.fields l.objects → Opening b memory l
+    unfolding open_of on_parse records_for
+    open_opens h =
+        let w : Reads b l = reads b l e in
+        let p = w.parsed in
+        let v : Valued b p = parse-valued b p w.is in
+        let s : Standing b p = parse-stands b p w.is in
+        let n : length memory ≡ cells_of p.recording.fields (length p.recording.owners) = h ∙ w.cells in
+        let d = eq-eqb (length memory) (cells_of p.recording.fields (length p.recording.owners)) n in
+        let f = facts_fit p.recording.fields (length p.recording.owners) (length b) (length memory) (record { few_fields = s.few_fields; few_objects = s.few_objects; within = v.within; cells = n }) in
+        let s : starting_in l.fields l.objects b memory ≡ starting_in p.recording.fields (length p.recording.owners) b memory =
+        ap₂ (λ (i j : ℕ). starting_in i j b memory) w.laid.fields w.laid.objects in
+        record {
+          answer = rw (w.is, d, begun_opened p w.laid);
+          records = w.laid.records ∙ rw (w.is, d);
+          values = s ∙ rw (starting_there p.recording.fields (length p.recording.owners) b memory f, w.is, d) (sym v.values);
+        }

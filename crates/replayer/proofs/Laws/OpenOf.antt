@@ -1,6 +1,7 @@
 -- What an accepted opening means: the recording that the bytes are, each task at the start of its body with nothing done, a sound run,
 -- and the starting values as memory.
-use Rattle.std.specs.Prelude.{◌≡◌, refl, true, List, ℕ, zero, suc, ◌≤◌, ◌<◌, eqb, length, get_or, set}
+use Rattle.codec.specs.Reason.{number_of}
+use Rattle.std.specs.Prelude.{Err, Ok, ◌≡◌, refl, List, ℕ, zero, suc, ◌≤◌, ◌<◌, eqb, length, get_or, set}
 use Rattle.std.proofs.Common.{ap, ◌∙◌, arith, length-set, get_or-set_same, get_or-set_other, eqb-true, eq-eqb}
 use Rattle.std.proofs.Math.Decide.{ℕ_discrete, dec_lt}
 use Rattle.std.proofs.lemmas.List.{get_or-replicate}
@@ -11,15 +12,13 @@ use Rattle.reader.specs.Calls.{no_span}
 use Rattle.reader.specs.Laws.Laid.{values-count, Valued, parse-valued}
 use Rattle.reader.specs.Parse.{Parsed, parse}
 use Rattle.reader.specs.Laws.Numbered.{parse-numbered}
-use Rattle.entries.specs.Reading.{Reading, refused, read}
+use Rattle.entries.specs.Reading.{Reading}
 use Rattle.reader.specs.Laws.Standing.{Standing, parse-stands}
 use Rattle.pending.specs.declared.TaskRun.{TaskRun}
 use Rattle.codec.specs.Number.{entries as wrong_length, ByReader}
 use Rattle.codec.specs.Limit.{max_tasks}
 use Rattle.pending.specs.Run.{blank_task, blank_tasks, task_at, done_of, cell_count}
-use Rattle.pending.specs.Sound.{sound_of}
 use Rattle.pending.proofs.Laws.Sound.{sound_test}
-use Rattle.pending.specs.Laws.Moved.{Shaped}
 use Rattle.replayer.specs.OpenOf.{start_of, starts_of, opened_run, on_parse, open_of}
 use Rattle.codec.specs.Cell.{width_of, cells_of}
 use Rattle.codec.specs.Laws.Cell.{cells_of_lem}
@@ -61,7 +60,7 @@ starts-done spans (suc n) t =
       ]
     ]
 
-pub opened-stands : (b : List ℕ) (p : Parsed) → parse b ≡ read p → AtStart b p
+pub opened-stands : (b : List ℕ) (p : Parsed) → parse b ≡ Ok p → AtStart b p
 opened-stands b p e =
     let s : Standing b p = parse-stands b p e in
     let v : Valued b p = parse-valued b p e in
@@ -82,7 +81,7 @@ opened-stands b p e =
     }
 
 -- if the bytes read as a recording and the memory has N times F entries, the opening is accepted
-pub open_accepts : (b memory : List ℕ) (p : Parsed) → parse b ≡ read p → length memory ≡ cell_count (opened_run p)
+pub open_accepts : (b memory : List ℕ) (p : Parsed) → parse b ≡ Ok p → length memory ≡ cell_count (opened_run p)
     → open_of b memory ≡ record { answer = record { number = 0; offset = 0; run = opened_run p }; memory = p.recording.values }
 unfolding open_of on_parse
 open_accepts b memory p e h = rw (e, eq-eqb (length memory) (cells_of p.recording.fields (length p.recording.owners)) h)
@@ -92,11 +91,11 @@ unfolding open_of on_parse
 open_accepted b memory h = go (parse b) refl
   where
     go : (x : Reading Parsed) → parse b ≡ x → Opens b memory
-    go (refused c) q = absurd (
-        let n : c.number ≡ 0 = rw q at h in
-        let z : ByReader c.number = rw q at (parse-numbered b) in
+    go (Err c) q = absurd (
+        let n : (number_of c.reason) ≡ 0 = rw q at h in
+        let z : ByReader (number_of c.reason) = rw q at (parse-numbered b) in
         omega (arith, z.0))
-    go (read p) q = elim (split (eqb (length memory) (cells_of p.recording.fields (length p.recording.owners)))) [
+    go (Ok p) q = elim (split (eqb (length memory) (cells_of p.recording.fields (length p.recording.owners)))) [
       | passes d ↦ record { parsed = p; reads = q; entries = eqb-true _ _ d }
       | fails d ↦ absurd (let z : ◌≡◌ {A = ℕ} wrong_length 0 = rw (q, d) at h in omega arith)
     ]

@@ -8,7 +8,7 @@ use Rattle.codec.specs.Limit.{max_tasks}
 use Rattle.pending.specs.Sound.{sound_of}
 use Rattle.pending.proofs.Laws.Sound.{sound_facts}
 use Rattle.replayer.specs.ReadyOf.{is_ready, ready_of}
-use Rattle.replayer.specs.Word.{word_of, has_bit, count_of, lowest_in, ready_count, lowest_ready}
+use Rattle.replayer.specs.Word.{word_of, has_bit, lowest_in}
 use Rattle.replayer.proofs.Laws.Word.{word-bit, word_above, word_count, word-lowest}
 use Rattle.replayer.specs.Laws.ReadyOf.{LowestIs, ReadySet, nowhere, ready}
 

@@ -1,6 +1,5 @@
 -- One pass of each loop of the opening, and the opening as the code does it.
-use Rattle.std.specs.Prelude.{◌≡◌, List, ℕ, ◌+◌, ◌-◌, ◌<◌}
-use Rattle.std.proofs.Common.{◌∙◌}
+use Rattle.std.specs.Prelude.{◌≡◌, List, ℕ}
 use Rattle.reader.specs.declared.layout.Layout.{Layout}
 use Rattle.reader.specs.Parse.{parse}
 use Rattle.reader.specs.Starting.{starting_in}

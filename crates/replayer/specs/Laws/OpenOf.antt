@@ -1,11 +1,8 @@
 -- What an accepted opening means: the recording that the bytes are, each task at the start of its body with nothing done, a sound run,
 -- and the starting values as memory.
-use Rattle.std.specs.Prelude.{◌≡◌, true, List, ℕ, ◌≤◌, ◌<◌, length, get_or}
-use Rattle.std.proofs.Common.{◌∙◌}
-use Rattle.std.proofs.Math.Decide.{ℕ_discrete}
+use Rattle.std.specs.Prelude.{Ok, ◌≡◌, true, List, ℕ, ◌<◌, length, get_or}
 use Rattle.reader.specs.Calls.{no_span}
 use Rattle.reader.specs.Parse.{Parsed, parse}
-use Rattle.entries.specs.Reading.{read}
 use Rattle.pending.specs.Run.{task_at, done_of, cell_count}
 use Rattle.pending.specs.Sound.{sound_of}
 use Rattle.pending.specs.Laws.Moved.{Shaped}
@@ -22,5 +19,5 @@ pub record AtStart (b : List ℕ) (p : Parsed) : Type 0 where
 -- and only then
 pub record Opens (b memory : List ℕ) : Type 0 where
   pub parsed : Parsed
-  pub reads : parse b ≡ read parsed
+  pub reads : parse b ≡ Ok parsed
   pub entries : length memory ≡ cell_count (opened_run parsed)

@@ -1,6 +1,5 @@
 -- The ready word of a sound run has exactly the ready tasks; the count and the lowest are theirs. The word of an unsound run is 0.
 use Rattle.std.specs.Prelude.{◌≡◌, Bool, true, false, List, ℕ, ◌+◌, ◌≤◌, ◌<◌}
-use Rattle.codec.specs.Laws.Decide.{passes}
 use Rattle.pending.specs.declared.Run.{Run}
 use Rattle.codec.specs.Limit.{max_tasks}
 use Rattle.replayer.specs.ReadyOf.{is_ready, ready_of}

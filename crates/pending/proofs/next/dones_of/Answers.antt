@@ -1,16 +1,9 @@
-use mathlib.Core.Path.{refl}
-use Prim.Native.Nat.{◌-◌}
+use Rattle.std.proofs.Common.{rules, sym}
 use Rattle.codec.specs.Limit.{max_tasks}
-use Rattle.pending.specs.Laws.Each.{Filled}
-use Rattle.pending.proofs.Laws.Each.{filled_none, filled_more, filled-all}
-use Rattle.pending.specs.Run.{done_of}
+use Rattle.pending.specs.Run.{blank_task, done_of}
+use Rattle.pending.proofs.Laws.Each.{each_of}
 use Rattle.pending.proofs.next.dones_of.Goals as goal
 
-pub loop-t-init : goal.loop-t-init
-loop-t-init c = filled_none _ _ _ refl
-
-pub loop-t-preserved : goal.loop-t-preserved
-loop-t-preserved c = filled_more _ _ _ c.loop-t.t c.loop-t-test.true c.loop-t.invariant
-
 pub returns : goal.returns
-returns c = filled-all _ _ _ c.loop-t.t c.loop-t-test.false c.loop-t.invariant
+returns c = let m = c.map.ensures.items in
+    sym (each_of (done_of c.args.run.runs) max_tasks c.map.result 0 m.long (λ k h. let w = m.at k blank_task 0 h in search rules))

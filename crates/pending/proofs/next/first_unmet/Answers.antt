@@ -1,5 +1,5 @@
 use native.Mathlib.Omega.{arith}
-use Prim.Native.Nat.{ℕ, ◌-◌}
+use Prim.Native.Nat.{ℕ}
 use Rattle.entries.specs.declared.Limits.{Limits}
 use Rattle.pending.specs.FirstUnmet.{Ahead}
 use Rattle.pending.specs.Laws.FirstUnmet.{Passing}

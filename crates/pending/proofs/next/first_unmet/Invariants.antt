@@ -1,10 +1,6 @@
-use native.Mathlib.Omega.{arith}
 use Prim.Native.Nat.{ℕ, ◌-◌}
 use Rattle.entries.specs.declared.Limits.{Limits}
 use Rattle.pending.specs.FirstUnmet.{Ahead}
-use Rattle.pending.specs.Laws.FirstUnmet.{Passing}
-use Rattle.pending.proofs.Laws.FirstUnmet.{ahead_turn, stops_before, stops_behind}
-use Rattle.entries.specs.OrderingAt.{ordering_at}
 use Rattle.pending.proofs.next.first_unmet.Given as goal
 
 abbrev pub invariant-loop-place : goal.invariant-loop-place

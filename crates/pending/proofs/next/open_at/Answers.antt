@@ -5,11 +5,10 @@ use Rattle.entries.specs.Entry.{ordering_ok}
 use Rattle.codec.specs.Laws.Front.{ordering-here}
 use Rattle.codec.specs.Decode.{record_of, is_ordering}
 use Rattle.codec.specs.Limit.{max_tasks}
-use Rattle.codec.specs.Number.{in_body}
 use lib.ListN.{length, take, drop}
 use Prim.Native.Nat.{ℕ, ◌-◌, ◌≤◌, ◌<◌}
 use mathlib.Core.Path.{◌≡◌, sym, ◌∙◌}
-use mathlib.Core.Bool.{Bool, true, false}
+use mathlib.Core.Bool.{true, false}
 use mathlib.Core.List.{List}
 use native.Mathlib.Omega.{arith}
 use Rattle.pending.proofs.next.open_at.Goals as goal
@@ -20,11 +19,11 @@ abbrev rest : List ℕ → ℕ → ℕ → List ℕ
 rest b place end = take (end - place) (drop place b)
 
 -- there is an ordering, with its eight bytes
-there : (c : Else-not-is_ordering) → is_ordering (record_of in_body (rest c.args.bytes.now c.loop-place.place c.args.end)) ≡ true
-there c = sym (c.is_ordering.ensures in_body) ∙ c.if-not-is_ordering.false
+there : (c : Else-not-is_ordering) → is_ordering (record_of (rest c.args.bytes.now c.loop-place.place c.args.end)) ≡ true
+there c = sym c.is_ordering.ensures ∙ c.if-not-is_ordering.false
 
 room : (c : Else-not-is_ordering) → 8 ≤ length (rest c.args.bytes.now c.loop-place.place c.args.end)
-room c = (ordering-here in_body _ (there c)).within
+room c = (ordering-here _ (there c)).within
 
 -- it is in range, so its task has a count
 good : (c : Else-not-ordering_ok) → ordering_ok c.args.limits (position_at (rest c.args.bytes.now c.loop-place.place c.args.end)) ≡ true
@@ -40,7 +39,7 @@ pub returns-then-not-is_ordering : goal.returns-then-not-is_ordering
 returns-then-not-is_ordering c =
     c.loop-place.invariant c.access_stands.result
     (opens_access c.args.limits c.args.bytes.now c.args.dones.now c.loop-place.place c.args.end c.loop-place-test.true c.requires.1
-    (sym (c.is_ordering.ensures in_body) ∙ c.if-not-is_ordering.true) c.access_stands.result (c.access_stands.ensures c.loop-place.place))
+    (sym c.is_ordering.ensures ∙ c.if-not-is_ordering.true) c.access_stands.result (c.access_stands.ensures c.loop-place.place))
 
 pub get16-source-requires : goal.get16-source-requires
 get16-source-requires c = omega (arith, room (goal.at.get16-source-requires c).Else-not-is_ordering)

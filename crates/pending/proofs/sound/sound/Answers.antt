@@ -1,11 +1,10 @@
 use native.Mathlib.Omega.{arith}
 use mathlib.Core.Path.{◌≡◌, sym, ◌∙◌}
-use Prim.Native.Nat.{◌-◌, ◌≤◌}
-use borrow.Author.Tests.{not-true, not-false, le-leb, lt-leb}
+use Prim.Native.Nat.{◌-◌}
+use borrow.Author.Tests.{le-leb, lt-leb}
 use Rattle.codec.specs.Limit.{max_tasks, max_fields}
 use Rattle.codec.specs.Laws.Limit.{within_facts}
 use Rattle.pending.specs.Sound.{task_sound_at, sound_of}
-use Rattle.pending.specs.All.{all_from}
 use Rattle.pending.proofs.Laws.All.{all-on, all_off, all_end}
 use Rattle.pending.proofs.sound.sound.Goals as goal
 

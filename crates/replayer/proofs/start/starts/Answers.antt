@@ -1,17 +1,14 @@
-use mathlib.Core.Path.{◌≡◌, sym, ◌∙◌}
+use mathlib.Core.Path.{sym, ◌∙◌}
 use native.Mathlib.Omega.{arith}
-use Prim.Native.Nat.{◌-◌, ◌≤◌}
 use native.Mathlib.Nat.{le_antisymm}
-use Rattle.codec.specs.Limit.{max_tasks}
-use Rattle.replayer.specs.OpenOf.{starts_of}
 use Rattle.replayer.proofs.Laws.OpenCode.{starts_none, starts_more, starts_clipped}
 use Rattle.replayer.proofs.start.starts.Goals as goal
 
 pub loop-t-init : goal.loop-t-init
-loop-t-init c = (omega arith, omega (arith, c.least-few.ensures), c.blank_tasks-runs.ensures ∙ sym (starts_none _))
+loop-t-init c = (omega arith, omega (arith, c.min-few.ensures), c.blank_tasks-runs.ensures ∙ sym (starts_none _))
 
 pub loop-t-preserved : goal.loop-t-preserved
 loop-t-preserved c = (omega arith, c.loop-t.invariant.1, rw (starts_more, c.loop-t.invariant.2))
 
 pub returns : goal.returns
-returns c = (rw (le_antisymm c.loop-t.invariant.0 c.loop-t-test.false, c.least-few.ensures) at c.loop-t.invariant.2) ∙ starts_clipped _ _
+returns c = (rw (le_antisymm c.loop-t.invariant.0 c.loop-t-test.false, c.min-few.ensures) at c.loop-t.invariant.2) ∙ starts_clipped _ _

@@ -1,10 +1,7 @@
-use mathlib.Core.Path.{◌≡◌, sym, ◌∙◌}
-use native.Mathlib.Omega.{arith}
+use mathlib.Core.Path.{◌≡◌}
 use Prim.Native.Nat.{◌-◌, ◌≤◌}
-use native.Mathlib.Nat.{le_antisymm}
 use Rattle.codec.specs.Limit.{max_tasks}
 use Rattle.replayer.specs.OpenOf.{starts_of}
-use Rattle.replayer.proofs.Laws.OpenCode.{starts_none, starts_more, starts_clipped}
 use Rattle.replayer.proofs.start.starts.Given as goal
 
 abbrev pub invariant-loop-t : goal.invariant-loop-t

@@ -1,5 +1,4 @@
 use mathlib.Core.Path.{refl, sym, ◌∙◌}
-use lib.ListN.{get_or-eq_default}
 use lib.Seq.{set_out}
 use Rattle.replayer.proofs.stepping.perform.Goals as goal
 
@@ -9,8 +8,5 @@ returns-then-cell-memory c = rw (sym c.writes.ensures ∙ c.if-writes.true) reco
 pub returns-else-cell-memory : goal.returns-else-cell-memory
 returns-else-cell-memory c = rw (sym c.writes.ensures ∙ c.if-writes.true) record { value = refl; memory_after = sym (set_out _ _ _ c.if-cell-memory.false) }
 
-pub returns-then-cell-memory-2 : goal.returns-then-cell-memory-2
-returns-then-cell-memory-2 c = rw (sym c.writes.ensures ∙ c.if-writes.false) record { value = refl; memory_after = refl }
-
 pub returns : goal.returns
-returns c = rw (sym c.writes.ensures ∙ c.if-writes.false) record { value = sym (get_or-eq_default c.args.memory.now 0 c.if-cell-memory-2.false); memory_after = refl }
+returns c = rw (sym c.writes.ensures ∙ c.if-writes.false) record { value = c.held.ensures; memory_after = refl }

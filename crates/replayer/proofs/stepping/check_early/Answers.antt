@@ -1,10 +1,10 @@
 use native.Mathlib.Omega.{arith}
 use mathlib.Core.Path.{sym, ◌∙◌}
-use borrow.Author.Tests.{lt-ltb, le-ltb, eq-eqb, ne_eqb, not-true, not-false}
+use borrow.Author.Tests.{lt-ltb, le-ltb, eq-eqb, ne_eqb}
 use Rattle.pending.proofs.Laws.Sound.{sound_facts}
 use Rattle.pending.specs.Run.{task_at, cell_count}
 use Rattle.replayer.specs.StepOf.{early_number}
-use Rattle.replayer.proofs.stepping.early_number.Goals as goal
+use Rattle.replayer.proofs.stepping.check_early.Goals as goal
 
 pub returns-then-not-sound : goal.returns-then-not-sound
 unfolding early_number
