@@ -2,7 +2,7 @@
 // after two steps, and played by an order of which some steps are refused.
 #![tactic(auto)]
 
-use input::{LONGEST_WORD, word_at, word_count};
+use input::{from_file, with_word, word_count};
 use options::ALL;
 use waits::MOST_WAITS;
 
@@ -37,28 +37,20 @@ fn play_paused(rt: HostRuntime, bytes: &[u8], most: usize, ordered: bool, order:
 // Writes a recording's name and then what the replay program writes for it.
 fn play_file(rt: HostRuntime, path: &[u8]) {
     let mut bytes = [0u8; 65537];
-    let file = input::from_file(rt, b"cases", path, &mut bytes);
-    if !file.read {
+    let Some(bytes) = from_file(rt, b"cases", path, &mut bytes) else {
         return;
-    }
-    let n = file.count;
+    };
     put(rt, path);
     put(rt, b"\n");
-    play(rt, &bytes[..n]);
+    play(rt, bytes);
     put(rt, b"--steps 2\n");
-    play_paused(rt, &bytes[..n], 2, false, b"");
+    play_paused(rt, bytes, 2, false, b"");
     put(rt, b"--order\n");
-    play_paused(rt, &bytes[..n], ALL, true, b"1\n0\n7\n0\n1\n0\n");
-}
-
-fn play_argument(rt: HostRuntime, i: usize) {
-    let mut path = [0u8; LONGEST_WORD];
-    let length = word_at(rt, i, &mut path);
-    play_file(rt, &path[..length]);
+    play_paused(rt, bytes, ALL, true, b"1\n0\n7\n0\n1\n0\n");
 }
 
 fn main(rt: HostRuntime) {
     for i in 1..word_count(rt) {
-        play_argument(rt, i);
+        with_word(rt, i, |path| play_file(rt, path));
     }
 }
