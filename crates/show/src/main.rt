@@ -40,12 +40,7 @@ fn main(rt: HostRuntime) {
         return;
     };
     let mut out = space();
-    let text = tell(
-        chosen.bytes,
-        chosen.task.is_some(),
-        chosen.task.unwrap_or(0),
-        &mut out,
-    );
+    let text = tell(chosen.bytes, chosen.task, &mut out);
     if rt.stdout().write_all(&out[..text]).is_err() {
         complain(rt, b"show: could not write all of the list\n");
     }
