@@ -16,22 +16,17 @@ fn play(rt: HostRuntime, bytes: &[u8]) {
     let mut out = transcript::space();
     let mut why = [0u8; MOST_WAITS];
     let told = transcript::tell(bytes, &mut out, &mut why);
-    let text = told.text;
-    let reasons = told.reasons;
-    put(rt, &out[..text]);
-    put(rt, &why[..reasons]);
+    put(rt, &out[..told.text]);
+    put(rt, &why[..told.reasons]);
 }
 
-// The same with --steps, and with --order if `ordered` is true.
-fn play_paused(rt: HostRuntime, bytes: &[u8], most: usize, ordered: bool, order: &[u8]) {
-    let none = [0u32; 1];
+// The same with --steps, and with --order if there is one.
+fn play_paused(rt: HostRuntime, bytes: &[u8], most: usize, order: Option<&[u8]>) {
     let mut out = pause::space();
     let mut why = [0u8; MOST_WAITS];
-    let told = pause::tell(bytes, most, &none[..0], ordered, order, &mut out, &mut why);
-    let text = told.text;
-    let reasons = told.reasons;
-    put(rt, &out[..text]);
-    put(rt, &why[..reasons]);
+    let told = pause::tell(bytes, most, &[], order, &mut out, &mut why);
+    put(rt, &out[..told.text]);
+    put(rt, &why[..told.reasons]);
 }
 
 // Writes a recording's name and then what the replay program writes for it.
@@ -44,9 +39,9 @@ fn play_file(rt: HostRuntime, path: &[u8]) {
     put(rt, b"\n");
     play(rt, bytes);
     put(rt, b"--steps 2\n");
-    play_paused(rt, bytes, 2, false, b"");
+    play_paused(rt, bytes, 2, None);
     put(rt, b"--order\n");
-    play_paused(rt, bytes, ALL, true, b"1\n0\n7\n0\n1\n0\n");
+    play_paused(rt, bytes, ALL, Some(b"1\n0\n7\n0\n1\n0\n"));
 }
 
 fn main(rt: HostRuntime) {

@@ -34,10 +34,8 @@ fn main(rt: HostRuntime) {
     let mut out = space();
     let mut why = [0u8; MOST_WAITS];
     let told = tell(bytes, &mut out, &mut why);
-    let text = told.text;
-    let reasons = told.reasons;
-    if rt.stdout().write_all(&out[..text]).is_err() {
+    if rt.stdout().write_all(&out[..told.text]).is_err() {
         complain(rt, b"playable: could not write all of the answer\n");
     }
-    complain(rt, &why[..reasons]);
+    complain(rt, &why[..told.reasons]);
 }

@@ -50,9 +50,7 @@ fn play(rt: HostRuntime, bytes: &[u8]) {
     let mut out = transcript::space();
     let mut why = [0u8; MOST_WAITS];
     let told = transcript::tell(bytes, &mut out, &mut why);
-    let text = told.text;
-    let reasons = told.reasons;
-    put(rt, &out[..text], &why[..reasons]);
+    put(rt, &out[..told.text], &why[..told.reasons]);
 }
 
 // Plays the steps that the options ask for. Its buffers must not become part of the frame of `main`, which every start pays for.
@@ -60,14 +58,13 @@ fn play(rt: HostRuntime, bytes: &[u8]) {
 fn play_asked(rt: HostRuntime, bytes: &[u8], asked: Pause) {
     let mut out = pause::space();
     let mut why = [0u8; MOST_WAITS];
-    let most = asked.most;
-    let counts = asked.counts;
-    let order = asked.order.unwrap_or(b"");
-    let ordered = asked.order.is_some();
-    let told = pause::tell(bytes, most, counts, ordered, order, &mut out, &mut why);
-    let text = told.text;
-    let reasons = told.reasons;
-    put(rt, &out[..text], &why[..reasons]);
+    let Pause {
+        most,
+        counts,
+        order,
+    } = asked;
+    let told = pause::tell(bytes, most, counts, order, &mut out, &mut why);
+    put(rt, &out[..told.text], &why[..told.reasons]);
 }
 
 // Reads one byte more than a recording and an order may have, and one count more than there can be tasks, to notice what is too long.
