@@ -6,7 +6,7 @@ ghost use Rattle.std.specs.Prelude.{List, ℕ, ◌≡◌, ◌<◌, ◌≤◌, If
 ghost use Rattle.std.specs.Fn.{FnOnceReturnsAt};
 ghost use Rattle.std.specs.Io.{ReadsAtMost};
 ghost use Rattle.std.specs.Io.KnownBytes.{Consumes, IsAtEnd};
-ghost use Rattle.input.specs.Counts.{IsPrefixLen};
+ghost use Rattle.input.specs.Counts.{FitsIn, IsPrefixLen};
 ghost use Rattle.input.specs.Option.{is_option};
 
 use lines::fields::field;
@@ -106,6 +106,7 @@ fn fail(rt: HostRuntime, name: &[u8], what: &[u8], error: io::Error) {
 }
 
 // Reads until the buffer is full or the input ends.
+// Kept: of std's own, `read_exact` fails at the end of a shorter input, and `read_to_end` fills a Vec.
 fn fill<R: Read>(source: &mut R, buffer: &mut [u8]) -> io::Result<usize>
     ensures count { ReadsAtMost result buffer.new }
     ensures bytes { IfOk result (λ n. Consumes (R.remaining source.old) (R.remaining source.new) (take n buffer.new)) }
@@ -131,7 +132,7 @@ fn read_all<'b, R: Read>(
     what: &[u8],
     buffer: &'b mut [u8],
 ) -> Option<&'b [u8]>
-    ensures { IfSome result (λ bytes. length bytes.now ≤ length buffer.old) }
+    ensures { FitsIn result buffer.old }
 {
     match fill(source, buffer) {
         Ok(count) => Some(&buffer[..count]),
@@ -155,7 +156,7 @@ pub fn from_file<'b>(
     path: &[u8],
     buffer: &'b mut [u8],
 ) -> Option<&'b [u8]>
-    ensures { IfSome result (λ bytes. length bytes.now ≤ length buffer.old) }
+    ensures { FitsIn result buffer.old }
 {
     match open(rt, path) {
         Ok(mut file) => read_all(rt, &mut file, name, path, buffer),
@@ -168,7 +169,7 @@ pub fn from_file<'b>(
 
 // Reads standard input. On a terminal it says what is expected.
 fn from_standard<'b>(rt: HostRuntime, program: Program, buffer: &'b mut [u8]) -> Option<&'b [u8]>
-    ensures { IfSome result (λ bytes. length bytes.now ≤ length buffer.old) }
+    ensures { FitsIn result buffer.old }
 {
     let name = program.name;
     if rt.stdin().is_terminal() {
@@ -238,7 +239,7 @@ fn from_word<'b>(
     program: Program,
     buffer: &'b mut [u8],
 ) -> Option<&'b [u8]>
-    ensures { IfSome result (λ bytes. length bytes.now ≤ length buffer.old) }
+    ensures { FitsIn result buffer.old }
 {
     match word {
         b"-" => from_standard(rt, program, buffer),
@@ -259,7 +260,7 @@ pub fn from_argument<'b>(
     program: Program,
     buffer: &'b mut [u8],
 ) -> Option<&'b [u8]>
-    ensures { IfSome result (λ bytes. length bytes.now ≤ length buffer.old) }
+    ensures { FitsIn result buffer.old }
 {
     let mut word = [0u8; LONGEST_WORD];
     match rt.arg(at, &mut word) {
@@ -278,7 +279,7 @@ pub fn from_rest<'b>(
     program: Program,
     buffer: &'b mut [u8],
 ) -> Option<&'b [u8]>
-    ensures { IfSome result (λ bytes. length bytes.now ≤ length buffer.old) }
+    ensures { FitsIn result buffer.old }
 {
     match word_count(rt).saturating_sub(at) {
         0 => from_standard(rt, program, buffer),
@@ -293,7 +294,7 @@ pub fn from_arguments<'b>(
     program: Program,
     buffer: &'b mut [u8],
 ) -> Option<&'b [u8]>
-    ensures { IfSome result (λ bytes. length bytes.now ≤ length buffer.old) }
+    ensures { FitsIn result buffer.old }
 {
     from_rest(rt, 1, program, buffer)
 }

@@ -2,6 +2,7 @@
 #![tactic(auto)]
 
 ghost use Rattle.std.specs.Prelude.{◌≡◌, ◌≤◌, ◌<◌, IfOk, IfSome, length};
+ghost use Rattle.input.specs.Counts.{FitsIn};
 
 use input::{Program, from_argument, from_rest, is_option, number_at, with_word, word_count};
 
@@ -70,7 +71,7 @@ fn is_file(rt: HostRuntime, at: usize) -> bool {
 // The first argument from `from` on that is not a number.
 fn past_numbers(rt: HostRuntime, from: usize, words: usize) -> usize
     requires { from ≤ words }
-    ensures { (from ≤ result) × (result ≤ words) }
+    ensures { from ≤ result }
 {
     (from..words)
         .find(|at| number_at(rt, *at).is_none())
@@ -80,7 +81,7 @@ fn past_numbers(rt: HostRuntime, from: usize, words: usize) -> usize
 // --steps and a number.
 fn take_steps(rt: HostRuntime, o: Options, words: usize) -> Result<Options, Misuse>
     requires { o.next < words }
-    ensures { IfOk result (λ more. (o.next < more.next) × (more.next ≤ words)) }
+    ensures { IfOk result (λ more. o.next < more.next) }
 {
     let at = o.next + 1;
     if o.steps.is_some() || words <= at {
@@ -94,7 +95,7 @@ fn take_steps(rt: HostRuntime, o: Options, words: usize) -> Result<Options, Misu
 // --done and one count or more.
 fn take_done(rt: HostRuntime, o: Options, words: usize) -> Result<Options, Misuse>
     requires { o.next < words }
-    ensures { IfOk result (λ more. (o.next < more.next) × (more.next ≤ words)) }
+    ensures { IfOk result (λ more. o.next < more.next) }
 {
     let at = o.next + 1;
     let next = past_numbers(rt, at, words);
@@ -108,7 +109,7 @@ fn take_done(rt: HostRuntime, o: Options, words: usize) -> Result<Options, Misus
 // --order and a file's name.
 fn take_order(rt: HostRuntime, o: Options, words: usize) -> Result<Options, Misuse>
     requires { o.next < words }
-    ensures { IfOk result (λ more. (o.next < more.next) × (more.next ≤ words)) }
+    ensures { IfOk result (λ more. o.next < more.next) }
 {
     let at = o.next + 1;
     if o.order.is_some() || words <= at || !is_file(rt, at) {
@@ -121,7 +122,7 @@ fn take_order(rt: HostRuntime, o: Options, words: usize) -> Result<Options, Misu
 
 // One option more, unless the next argument is none.
 fn take_option(rt: HostRuntime, o: Options, words: usize) -> Result<Option<Options>, Misuse>
-    ensures { IfOk result (λ taken. IfSome taken (λ more. (o.next < more.next) × (more.next ≤ words))) }
+    ensures { IfOk result (λ taken. IfSome taken (λ more. (o.next < words) × (o.next < more.next))) }
 {
     if words <= o.next {
         return Ok(None);
@@ -197,7 +198,7 @@ fn read_pause<'b>(
     order: &'b mut [u8],
 ) -> Option<Pause<'b>>
     ensures counts_bound { IfSome result (λ pause. length pause.counts.now ≤ length counts.old) }
-    ensures order_bound { IfSome result (λ pause. IfSome pause.order (λ bytes. length bytes.now ≤ length order.old)) }
+    ensures order_bound { IfSome result (λ pause. FitsIn pause.order order.old) }
     ensures most_bound { IfSome result (λ pause. pause.most ≤ 4294967296) }
 {
     let order = match o.order {
@@ -227,7 +228,7 @@ pub fn with_pause<'b>(
 ) -> Option<Asked<'b>>
     ensures bytes_bound { IfSome result (λ asked. length asked.bytes.now ≤ length buffer.old) }
     ensures counts_bound { IfSome result (λ asked. IfSome asked.pause (λ pause. length pause.counts.now ≤ length counts.old)) }
-    ensures order_bound { IfSome result (λ asked. IfSome asked.pause (λ pause. IfSome pause.order (λ bytes. length bytes.now ≤ length order.old))) }
+    ensures order_bound { IfSome result (λ asked. IfSome asked.pause (λ pause. FitsIn pause.order order.old)) }
     ensures most_bound { IfSome result (λ asked. IfSome asked.pause (λ pause. pause.most ≤ 4294967296)) }
 {
     let words = word_count(rt);

@@ -1,4 +1,4 @@
--- Each option moves `next`, and never past the last word.
+-- Each option begins before the last word and moves `next`.
 use Rattle.std.proofs.Common.{◌-◌}
 use Rattle.options.proofs.take_options.Given as goal
 
