@@ -20,7 +20,8 @@ use std::rt::Env;
 // The longest argument that is taken, in bytes.
 pub const LONGEST_WORD: usize = 4096;
 
-// How a program is called and what it says of itself: its name, what it takes before the file, what its input is, and what it does with it.
+// How a program is called and what it says of itself: its name; what it takes before the file, with a blank before each option; what its
+// input is; and what it does with it.
 #[derive(Clone, Copy)]
 pub struct Program<'a> {
     pub name: &'a [u8],
@@ -211,6 +212,7 @@ pub fn word_count(rt: HostRuntime) -> usize {
 }
 
 // Puts an argument at the front of the buffer and returns its length; 0 if it is missing or longer than the buffer.
+// Kept: it cannot fail, so no `Option`.
 pub fn word_at(rt: HostRuntime, at: usize, word: &mut [u8]) -> usize
     ensures { IsPrefixLen result word.new }
 {

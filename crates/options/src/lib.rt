@@ -7,6 +7,7 @@ ghost use Rattle.input.specs.Counts.{FitsIn};
 use input::{Program, from_argument, from_rest, is_option, number_at, with_word, word_count};
 
 // What `most` is if --steps is not given: more than any number that it takes.
+// Kept: `pause::tell` takes a number of steps, and its theorems speak of one.
 pub const ALL: usize = 4294967296;
 
 // The most words that are taken: the program's own name and 64 arguments.
