@@ -8,7 +8,7 @@ ghost use Rattle.std.specs.Io.KnownBytes.{Consumes, IsAtEnd};
 ghost use Rattle.input.specs.Counts.{IsPrefixLen};
 ghost use Rattle.input.specs.Option.{is_option};
 
-use lines::fields::{NONE, field};
+use lines::fields::field;
 use std::env::FillError;
 use std::fmt::InlineText;
 use std::fs::File;
@@ -303,11 +303,11 @@ fn is_task_option(rt: HostRuntime) -> bool {
     &word[..length] == b"--task".as_slice()
 }
 
-// The argument after the option as a number; NONE or more if it is missing or not a number.
-fn task_word(rt: HostRuntime) -> u64 {
+// The argument after the option as a number, if it is there and is one.
+fn task_word(rt: HostRuntime) -> Option<u32> {
     let mut word = [0u8; LONGEST_WORD];
     let length = word_at(rt, 2, &mut word);
-    field(&word[..length])
+    field(&word[..length]).number()
 }
 
 // The same as `from_arguments` for a program that takes --task TASK before the file.
@@ -331,8 +331,7 @@ pub fn with_task(
             task: 0,
         };
     }
-    let task = task_word(rt);
-    if NONE <= task {
+    let Some(task) = task_word(rt) else {
         put_usage(&rt.stderr(), program, options);
         return ChosenInput {
             read: false,
@@ -340,7 +339,7 @@ pub fn with_task(
             one: false,
             task: 0,
         };
-    }
+    };
     let i = from_rest(rt, 3, program, options, expected, help, buffer);
     ChosenInput {
         read: i.read,

@@ -7,7 +7,7 @@ ghost use Rattle.input.specs.Counts.{IsPrefixLen};
 use input::{
     Input, LONGEST_WORD, from_argument, from_rest, is_option, put_usage, word_at, word_count,
 };
-use lines::fields::{NONE, field};
+use lines::fields::field;
 
 // What `most` is if --steps is not given: more than any number that it takes.
 pub const ALL: usize = 4294967296;
@@ -57,11 +57,11 @@ fn is_name(rt: HostRuntime, at: usize) -> bool {
     !is_option(&word[..length])
 }
 
-// An argument as a number; NONE or more if it is missing or not a number.
-fn number_at(rt: HostRuntime, at: usize) -> u64 {
+// An argument as a number, if it is there and is one.
+fn number_at(rt: HostRuntime, at: usize) -> Option<u32> {
     let mut word = [0u8; LONGEST_WORD];
     let length = word_at(rt, at, &mut word);
-    field(&word[..length])
+    field(&word[..length]).number()
 }
 
 // The first argument from `from` on that is not a number.
@@ -71,7 +71,7 @@ fn past_numbers(rt: HostRuntime, from: usize, words: usize) -> usize
 {
     let mut at = from;
     while at < words {
-        if NONE <= number_at(rt, at) {
+        if number_at(rt, at).is_none() {
             return at;
         }
         at += 1;
@@ -93,13 +93,13 @@ fn take_steps(rt: HostRuntime, mut o: Options, words: usize) -> Options
     if words <= at {
         return o;
     }
-    if NONE <= n {
+    let Some(steps) = n else {
         return o;
-    }
+    };
     o.wrong = false;
     o.next = at + 1;
     o.stepped = true;
-    o.steps = n as u32;
+    o.steps = steps;
     o
 }
 
@@ -213,14 +213,13 @@ fn put_counts(rt: HostRuntime, from: usize, words: usize, counts: &mut [u32]) ->
     let mut n = 0;
     let mut at = from;
     while at < words {
-        let v = number_at(rt, at);
-        if NONE <= v {
+        let Some(v) = number_at(rt, at) else {
             return n;
-        }
+        };
         if counts.len() <= n {
             return n;
         }
-        counts[n] = v as u32;
+        counts[n] = v;
         n += 1;
         at += 1;
     }
