@@ -6,6 +6,8 @@ ghost use Rattle.std.specs.Prelude.{List, ℕ, ◌≡◌, ◌<◌, ◌≤◌, If
 ghost use Rattle.std.specs.Fn.{FnOnceReturnsAt};
 ghost use Rattle.std.specs.Io.{ReadsAtMost};
 ghost use Rattle.std.specs.Io.KnownBytes.{Consumes, IsAtEnd};
+ghost use Rattle.lines.specs.Field.{numeral_of};
+ghost use Rattle.lines.specs.Fields.{field_of};
 ghost use Rattle.input.specs.Counts.{FitsIn, IsPrefixLen};
 ghost use Rattle.input.specs.Option.{is_option};
 
@@ -230,8 +232,10 @@ pub fn with_word<T, F: FnOnce(&[u8]) -> T>(rt: HostRuntime, at: usize, f: F) -> 
 }
 
 // An argument as a number, if it is one.
-pub fn number_at(rt: HostRuntime, at: usize) -> Option<u32> {
-    with_word(rt, at, |word| u32::try_from(field(word)).ok())
+pub fn number_at(rt: HostRuntime, at: usize) -> Option<u32>
+    ensures { (word : List ℕ) × (length word ≤ LONGEST_WORD) × (result ≡ numeral_of (field_of word)) }
+{
+    with_word(rt, at, |word| field(word).number())
 }
 
 // Follows a word: `-` is standard input, and any other word that begins with it is an option.
