@@ -1,9 +1,8 @@
 -- Nothing is left out: for the bytes of a recording, the list of everything is the lines of that recording, record by record, and then how
 -- many there are.
-use Rattle.std.specs.Prelude.{◌≡◌, drop}
+use Rattle.std.specs.Prelude.{◌≡◌, None, drop}
 use Rattle.std.proofs.Math.Path.{refl}
 use Rattle.std.proofs.Common.{sym, ap, ◌∙◌, le-ltb, drop-drop, drop_at}
-use Rattle.std.proofs.Math.Bool.{false}
 use mathlib.Core.List.{List, [], ◌∷◌, ◌++◌, append_assoc, append-nil}
 use Prim.Native.Nat.{ℕ, suc, ◌+◌, ◌*◌, ◌-◌, ◌≤◌, ◌<◌}
 use native.Mathlib.Omega.{arith}
@@ -41,9 +40,9 @@ use Rattle.listing.specs.Text.{lines_to, is_missing, answer_of, text_of}
 use Rattle.listing.specs.Laws.Reached.{Reached, reached-start, reached-on, reached_past}
 use Rattle.listing.specs.Laws.Walk.{Good}
 
-module _ (chosen : ℕ) (b : List ℕ) where
+module _ (b : List ℕ) where
   -- with everything listed, each record that is read has its line
-  part-all : (p : Place) (r : Record) → Good r → part_at false chosen p r ≡ line_at p r
+  part-all : (p : Place) (r : Record) → Good r → part_at None p r ≡ line_at p r
   unfolding part_at listed shows
   part-all p (Head kind t n width) g = refl
   part-all p (Section t n size) g = refl
@@ -53,7 +52,7 @@ module _ (chosen : ℕ) (b : List ℕ) where
 
   -- the walk is at a place, with these bytes from there on
   record Comes (text : List ℕ) (p : Place) (rest : List ℕ) : Type 0 where
-    pub reached : Reached false chosen b (length b) text p
+    pub reached : Reached None b (length b) text p
     pub ahead : drop p.at b ≡ rest
 
   -- one record further
@@ -62,7 +61,7 @@ module _ (chosen : ℕ) (b : List ℕ) where
   comes_on x {text} {rest} {p} c r e g h a =
       let d : record_of short (drop p.at b) ≡ r = rw c.ahead e in
       let l : length b - p.at ≡ length x + length rest = rw (length-drop, length-append) at (ap length c.ahead) in
-      let w = reached-on false chosen b (length b) text p c.reached (omega arith) (omega arith) (rw d (omega arith)) in
+      let w = reached-on None b (length b) text p c.reached (omega arith) (omega arith) (rw d (omega arith)) in
       record {
         reached = rw (← part-all p r g) (rw d at w);
         ahead = rw a (sym (drop-drop (length x) p.at b) ∙ ap (drop (length x)) c.ahead ∙ drop_at x rest (length x) refl);
@@ -116,10 +115,10 @@ module _ (chosen : ℕ) (b : List ℕ) where
 
   -- the sections, up to the end
   sections_come : (tasks objects fields : ℕ) → tasks ≤ 65536 → objects ≤ 65536 → fields ≤ max_fields → (bodies : List (List Entry)) (t : ℕ) (p : Place) {text : List ℕ} → t + length bodies ≤ 65536
-      → BodiesIn tasks objects fields t bodies → Comes text p (sections_bytes t bodies) → lines_to false chosen b (length b) ≡ text ++ sections_lines p.at t bodies
+      → BodiesIn tasks objects fields t bodies → Comes text p (sections_bytes t bodies) → lines_to None b (length b) ≡ text ++ sections_lines p.at t bodies
   unfolding sections_bytes sections_lines line_at after_of
   sections_come tasks objects fields ht ho hf [] t p {text} h w c =
-      rw append-nil (reached_past false chosen b (length b) text p c.reached (omega (arith, rw length-drop at (ap length c.ahead))))
+      rw append-nil (reached_past None b (length b) text p c.reached (omega (arith, rw length-drop at (ap length c.ahead))))
   sections_come tasks objects fields ht ho hf (es ∷ bodies) t p {text} h w c =
       let m : Limits = record { tasks = tasks; objects = objects; fields = fields; own = t } in
       let z : length (body_bytes es) ≤ length (body_bytes es ++ sections_bytes (suc t) bodies) = rw length-append (omega arith) in
@@ -129,29 +128,29 @@ module _ (chosen : ℕ) (b : List ℕ) where
       rw (← append_assoc, ← append_assoc) (sections_come tasks objects fields ht ho hf bodies (suc t) _ (omega arith) w.1 g)
 
 -- the bytes of a recording in range
-pub value-listed : (chosen : ℕ) (b : List ℕ) (r : Recording) → b ≡ bytes_of r → InRange r → lines_to false chosen b (length b) ≡ recording_lines r
+pub value-listed : (b : List ℕ) (r : Recording) → b ≡ bytes_of r → InRange r → lines_to None b (length b) ≡ recording_lines r
 unfolding bytes_of recording_lines head line_at after_of
-value-listed chosen b r e i =
+value-listed b r e i =
     let f : ℕ = r.fields in
     let n : ℕ = length r.owners in
     let h = i.head in
-    let c : Comes chosen b [] start (head f r.tasks r.owners r.values ++ sections_bytes 0 r.bodies) = record { reached = reached-start false chosen b (length b); ahead = e } in
+    let c : Comes b [] start (head f r.tasks r.owners r.values ++ sections_bytes 0 r.bodies) = record { reached = reached-start None b (length b); ahead = e } in
     let rest = head_objects (width_of f) r.owners r.values ++ sections_bytes 0 r.bodies in
     let z : n * head_step (width_of f) ≤ length rest = rw (length-append, head-objects-length (width_of f) r.owners r.values (cells_are f n h.value_each)) (omega arith) in
     let q = read_head short f r.tasks n rest h.few_fields (omega (arith, h.few_tasks)) h.few_objects z in
     let k = head-length f r.tasks r.owners r.values h.value_each in
-    let d = comes_on chosen b (head f r.tasks r.owners r.values) c (Head (head_kind_of f) r.tasks n (width_of f)) (rw append_assoc q) tt (rw k (omega (arith, length-long f n))) (rw k (omega arith)) in
+    let d = comes_on b (head f r.tasks r.owners r.values) c (Head (head_kind_of f) r.tasks n (width_of f)) (rw append_assoc q) tt (rw k (omega (arith, length-long f n))) (rw k (omega arith)) in
     let y : 0 + head_length f n ≡ head_length f n = omega arith in
-    rw (y, fields_back) at (sections_come chosen b r.tasks n f (omega (arith, h.few_tasks)) (omega (arith, h.few_objects)) h.few_fields r.bodies 0 _ (omega (arith, i.body_each, h.few_tasks)) i.bodies d)
+    rw (y, fields_back) at (sections_come b r.tasks n f (omega (arith, h.few_tasks)) (omega (arith, h.few_objects)) h.few_fields r.bodies 0 _ (omega (arith, i.body_each, h.few_tasks)) i.bodies d)
 
 -- the lines and their number are the whole text
-pub value-shown : (chosen : ℕ) (b : List ℕ) (p : Parsed) → length b ≤ longest → parse b ≡ read p → b ≡ bytes_of p.recording → InRange p.recording
-    → text_of false chosen b ≡ recording_lines p.recording ++ records_line (records_in p.recording)
+pub value-shown : (b : List ℕ) (p : Parsed) → length b ≤ longest → parse b ≡ read p → b ≡ bytes_of p.recording → InRange p.recording
+    → text_of None b ≡ recording_lines p.recording ++ records_line (records_in p.recording)
 unfolding text_of answer_of is_missing
-value-shown chosen b p h e q i = rw (le-ltb longest (length b) h, e, value-listed chosen b p.recording q i)
+value-shown b p h e q i = rw (le-ltb longest (length b) h, e, value-listed b p.recording q i)
 
 -- THE LIST IS COMPLETE: for all bytes that are read, the text of everything is the lines of the recording that they mean, and its number of
 -- records
-pub all_shown : (chosen : ℕ) (b : List ℕ) (p : Parsed) → Bytes b → length b ≤ longest → parse b ≡ read p
-    → text_of false chosen b ≡ recording_lines p.recording ++ records_line (records_in p.recording)
-all_shown chosen b p by h e = let s = parse_strict b p by e in value-shown chosen b p h e s.bytes s.in_range
+pub all_shown : (b : List ℕ) (p : Parsed) → Bytes b → length b ≤ longest → parse b ≡ read p
+    → text_of None b ≡ recording_lines p.recording ++ records_line (records_in p.recording)
+all_shown b p by h e = let s = parse_strict b p by e in value-shown b p h e s.bytes s.in_range
