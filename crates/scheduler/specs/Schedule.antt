@@ -1,11 +1,9 @@
 -- The order of "lowest ready task first" (document 01, "Replay"): the tasks it steps, one after another, until no task is ready. Which
 -- tasks are ready does not depend on the memory, and neither does the order. An unsound run has no ready task.
-use Rattle.std.specs.Prelude.{cond, List, [], ◌∷◌, ℕ, zero, suc, eqb}
+use Rattle.std.specs.Prelude.{Some, None, Ok, Err, cond, List, [], ◌∷◌, ℕ, zero, suc, eqb}
 use Rattle.pending.specs.declared.Run.{Run}
-use Rattle.pending.specs.declared.next.Next.{Next}
-use Rattle.pending.specs.declared.next.Next.TheVariants.{Open, Held, Refused}
 use Rattle.scheduler.specs.Finish.{Play, left_over, takes_step, stepped_by}
-use Rattle.pending.specs.Next.{next_of}
+use Rattle.pending.specs.Next.{Next, next_of}
 use Rattle.replayer.specs.ReadyOf.{ready_of}
 use Rattle.pending.specs.Run.{moved_of}
 use Rattle.replayer.specs.Word.{lowest_ready}
@@ -15,9 +13,9 @@ next_task b r = lowest_ready (ready_of r b).word
 
 -- the run after a task's next access
 unfoldable pub behind_of : Run → ℕ → Next → Run
-behind_of r t (Open op next) = moved_of r t next
-behind_of r t Held = r
-behind_of r t (Refused c) = r
+behind_of r t (Ok (Some w)) = moved_of r t w.next
+behind_of r t (Ok None) = r
+behind_of r t (Err c) = r
 
 -- at most n steps
 unfoldable pub schedule_from : ℕ → List ℕ → Run → List ℕ

@@ -16,22 +16,11 @@ pub struct Columns {
 pub fn columns_of(run: Run) -> Columns
     ensures { result ≡ columns_of run }
 {
-    let mut places = [0usize; TASKS];
-    let mut ends = [0usize; TASKS];
-    let mut dones = [0usize; TASKS];
-    let mut counts = [0usize; TASKS];
-    for t in 0..TASKS {
-        let x = run.runs[t];
-        places[t] = x.place;
-        ends[t] = x.end;
-        dones[t] = x.done;
-        counts[t] = x.count;
-    }
     Columns {
-        places,
-        ends,
-        dones,
-        counts,
+        places: run.runs.map(|x| x.place),
+        ends: run.runs.map(|x| x.end),
+        dones: run.runs.map(|x| x.done),
+        counts: run.runs.map(|x| x.count),
     }
 }
 
@@ -55,13 +44,12 @@ pub fn run_of(
     };
     let mut runs = [blank; TASKS];
     for t in 0..TASKS {
-        let x = TaskRun {
+        runs[t] = TaskRun {
             place: places[t],
             end: ends[t],
             done: dones[t],
             count: counts[t],
         };
-        runs[t] = x;
     }
     Run {
         tasks,

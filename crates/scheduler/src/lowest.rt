@@ -8,17 +8,17 @@ use crate::visit::visit;
 use codec::Op;
 use codec::limit::TASKS;
 use pending::TaskRun;
-use pending::next::Next;
 
-// The lowest ready task and its next access, or none if no task is ready.
-#[derive(Clone, Copy)]
-pub enum NextStep {
-    Ready { task: usize, op: Op },
-    Stopped,
+// A ready task and its next access.
+#[derive(Clone, Copy, Debug, PartialEq, Eq)]
+pub struct Chosen {
+    pub task: usize,
+    pub op: Op,
 }
 
 // Tests the tasks from 0 on until one may go: it moves on to the place after its access, with one more done. What was found about the
 // waiting tasks is kept in the notes. The access is rebuilt from its fields: as a whole it was copied by loads that wait for several stores.
+// Kept: ten parameters, since each column is lent by itself: some to be written and some only to be read, which one struct would not tell.
 pub fn lowest(
     tasks: usize,
     objects: usize,
@@ -30,7 +30,7 @@ pub fn lowest(
     counts: &[usize; TASKS],
     scans: &mut [usize; TASKS],
     ats: &mut [usize; TASKS],
-) -> NextStep
+) -> Option<Chosen>
     requires { Columned bytes.now tasks objects fields places.old ends.now dones.old counts.now scans.old ats.old }
     ensures value { result ≡ lowest_of (run_of tasks objects fields places.old ends.now dones.old counts.now) bytes.now }
     ensures counts_after { run_of tasks objects fields places.new ends.now dones.new counts.now
@@ -44,20 +44,20 @@ pub fn lowest(
             done: dones[t],
             count: counts[t],
         };
-        let n = visit(x, bytes, tasks, objects, fields, t, dones, scans, ats);
-        if let Next::Open { op, next } = n {
-            places[t] = next;
+        let going = visit(x, bytes, tasks, objects, fields, t, dones, scans, ats);
+        if let Some(open) = going {
+            places[t] = open.next;
             dones[t] = x.done + 1;
-            return NextStep::Ready {
+            return Some(Chosen {
                 task: t,
                 op: Op {
-                    kind: op.kind,
-                    object: op.object,
-                    field: op.field,
-                    value: op.value,
+                    kind: open.op.kind,
+                    object: open.op.object,
+                    field: open.op.field,
+                    value: open.op.value,
                 },
-            };
+            });
         }
     }
-    NextStep::Stopped
+    None
 }

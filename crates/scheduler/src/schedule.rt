@@ -4,7 +4,7 @@ ghost use Rattle.codec.specs.Store.{store};
 ghost use Rattle.scheduler.specs.Schedule.{schedule_from};
 
 use crate::columns::columns_of;
-use crate::lowest::{NextStep, lowest};
+use crate::lowest::lowest;
 use codec::limit::TASKS;
 use pending::Run;
 use pending::sound::sound;
@@ -25,9 +25,8 @@ pub fn schedule(run: Run, bytes: &[u8], out: &mut [u8]) -> usize
     let counts = c.counts;
     let mut scans = [0usize; TASKS];
     let mut ats = [0usize; TASKS];
-    let mut steps: usize = 0;
-    while steps < out.len() {
-        let n = lowest(
+    for steps in 0..out.len() {
+        let next = lowest(
             run.tasks,
             run.objects,
             run.fields,
@@ -39,11 +38,10 @@ pub fn schedule(run: Run, bytes: &[u8], out: &mut [u8]) -> usize
             &mut scans,
             &mut ats,
         );
-        let NextStep::Ready { task, op: _ } = n else {
+        let Some(chosen) = next else {
             return steps;
         };
-        out[steps] = task as u8;
-        steps += 1;
+        out[steps] = chosen.task as u8;
     }
-    steps
+    out.len()
 }

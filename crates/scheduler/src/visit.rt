@@ -9,9 +9,9 @@ ghost use Rattle.scheduler.specs.Laws.Visit.{Note, Noted, Visited};
 use codec::limit::TASKS;
 use entries::Limits;
 use pending::TaskRun;
-use pending::next::{Next, first_unmet, look_at};
+use pending::next::{Open, first_unmet, look_at};
 
-// What is next for a task; held if it has no accesses left. The note of a task is the place of the access's record and the place of the
+// The next access of a task if it may be done. The note of a task is the place of the access's record and the place of the
 // first ordering before it that was unmet. A step goes past that record, and the note then says nothing. The limits are made only where there are
 // records to read: a task that waits or has finished is asked for at every step.
 pub(crate) fn visit(
@@ -24,7 +24,7 @@ pub(crate) fn visit(
     dones: &[usize; TASKS],
     scans: &mut [usize; TASKS],
     ats: &mut [usize; TASKS],
-) -> Next
+) -> Option<Open>
     requires tasks_le_max_tasks { (tasks ≤ max_tasks) × (own < max_tasks) × (x.end ≤ length bytes.now) }
     requires note { Note (record { tasks = tasks; objects = objects; fields = fields; own = own }) bytes.now dones.now x (get_or scans.old own 0) (get_or ats.old own 0) }
     ensures { (run : Run) → OneTask run own x (record { tasks = tasks; objects = objects; fields = fields; own = own }) dones.now
@@ -32,7 +32,7 @@ pub(crate) fn visit(
         → Visited run bytes.now own scans.new ats.new result }
 {
     if x.count <= x.done {
-        return Next::Held;
+        return None;
     }
     let noted = ats[own];
     let mut from = x.place;
@@ -40,7 +40,7 @@ pub(crate) fn visit(
         let scan = first_unmet(bytes, scans[own], noted, dones);
         if scan < noted {
             scans[own] = scan;
-            return Next::Held;
+            return None;
         }
         from = scan;
     }
@@ -53,5 +53,5 @@ pub(crate) fn visit(
     let k = look_at(bytes, from, x.end, limits, dones);
     scans[own] = k.scan;
     ats[own] = k.at;
-    k.next
+    k.next.unwrap_or(None)
 }

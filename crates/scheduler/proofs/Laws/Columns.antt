@@ -1,5 +1,5 @@
 -- A run as columns: T, N, and one list of 16 each for the tasks' places, ends, numbers of accesses done, and counts.
-use Rattle.std.specs.Prelude.{Bool, not, List, ℕ, ◌+◌, ◌<◌, ltb, get_or, length, set, ◌≡◌, refl}
+use Rattle.std.specs.Prelude.{List, ℕ, ◌+◌, ◌<◌, get_or, length, set, ◌≡◌, refl}
 use Rattle.std.proofs.Common.{sym, ap, ◌∙◌, arith, get_or-set_same, get_or-set_other}
 use Rattle.std.proofs.Math.Decide.{ℕ_discrete}
 use Rattle.codec.specs.Limit.{max_tasks}
@@ -7,9 +7,7 @@ use Rattle.pending.specs.declared.TaskRun.{TaskRun}
 use Rattle.pending.specs.declared.Run.{Run}
 use Rattle.scheduler.specs.declared.columns.Columns.{Columns}
 use Rattle.scheduler.specs.Finish.{tasks_in, is_done, finished_of}
-use Rattle.pending.specs.All.{all_from}
 use Rattle.pending.specs.Dones.{dones_of}
-use Rattle.pending.specs.Each.{each}
 use Rattle.pending.specs.Run.{task_at, blank_task, done_of, limits_of, moved_of}
 use Rattle.scheduler.proofs.Laws.Finish.{tasks-few}
 use Rattle.pending.proofs.Laws.All.{all_same}

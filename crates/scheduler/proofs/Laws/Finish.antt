@@ -7,7 +7,6 @@ use Prim.Native.Nat.{ℕ, zero, suc, ◌+◌, ◌≤◌, ◌<◌}
 use native.Mathlib.Omega.{arith}
 use Rattle.std.proofs.Math.Decide.{ℕ_discrete}
 use Rattle.std.proofs.lemmas.Bool.{eqb-false}
-use Rattle.codec.specs.declared.Op.{Op}
 use Rattle.codec.specs.Laws.Decide.{passes, fails, split, never}
 use Rattle.codec.specs.Limit.{max_tasks}
 use Rattle.pending.specs.declared.Run.{Run}
@@ -17,10 +16,10 @@ use Rattle.pending.proofs.Laws.Moved.{moved-own, moved_other, moved-tasks}
 use Rattle.replayer.specs.Laws.ReadyOf.{ready, nowhere}
 use Rattle.replayer.proofs.Laws.ReadyOf.{ready-word}
 use Rattle.replayer.specs.ReadyOf.{is_ready, ready_of}
-use Rattle.pending.specs.Run.{task_at, moved_of, cell_count}
+use Rattle.pending.specs.Run.{task_at, moved_of}
 use Rattle.pending.specs.Sound.{sound_of}
 use Rattle.pending.proofs.Laws.Sound.{sound_facts}
-use Rattle.replayer.specs.Laws.StepOf.{Differs, taken, turned, differing}
+use Rattle.replayer.specs.Laws.StepOf.{taken, turned, differing}
 use Rattle.replayer.proofs.Laws.StepOf.{step_goes, step_keeps}
 use Rattle.replayer.specs.Word.{word_of, has_bit}
 use Rattle.replayer.proofs.Laws.Word.{zero_bit}

@@ -6,7 +6,6 @@ use Rattle.std.proofs.Math.Decide.{ℕ_discrete}
 use Rattle.codec.specs.declared.Op.{Op}
 use Rattle.codec.specs.Laws.Decide.{passes, fails, split}
 use Rattle.pending.specs.declared.Run.{Run}
-use Rattle.pending.specs.declared.next.Next.TheVariants.{Open}
 use Rattle.scheduler.specs.Finish.{Play, word_at, task_next, takes_step, stepped_by, goes_on, onward, played_of, left_over, finish_of}
 use Rattle.scheduler.specs.Laws.Finish.{Playing}
 use Rattle.scheduler.proofs.Laws.Finish.{goes_onward, none_stops}
@@ -14,7 +13,7 @@ use Rattle.scheduler.specs.Laws.Lowest.{IsNext, goes_on_lem, stops}
 use Rattle.scheduler.proofs.Laws.Lowest.{standing, behind, step-agrees, step-differs}
 use Rattle.pending.specs.Laws.Moved.{Shaped}
 use Rattle.pending.proofs.Laws.Moved.{moved_shaped}
-use Rattle.pending.specs.Next.{next_of}
+use Rattle.pending.specs.Next.{may_go, next_of}
 use Rattle.replayer.specs.ReadyOf.{ready_of}
 use Rattle.pending.specs.Run.{moved_of}
 use Rattle.scheduler.specs.Schedule.{next_task, behind_of, schedule_from, schedule_of, ran_by, settled_of, played_by}
@@ -22,7 +21,6 @@ use Rattle.pending.specs.Sound.{sound_of}
 use Rattle.replayer.specs.Laws.StepOf.{taken, turned, differing}
 use Rattle.replayer.proofs.Laws.StepOf.{step_goes, step_keeps}
 use Rattle.replayer.specs.Memory.{agrees}
-use Rattle.replayer.specs.StepOf.{step_of}
 use Rattle.codec.specs.Cell.{op_cell}
 use Rattle.scheduler.specs.Laws.Schedule.{AllTaken, StepTaken, StepsTo}
 
@@ -42,16 +40,16 @@ schedule_next b r s h t op next w =
     let f : left_over r ≡ suc (left_over (moved_of r t next)) = omega (arith, (behind r b t op next s h w).fewer) in
     rw f (schedule_goes (left_over (moved_of r t next)) b r t op next w)
 
-short : (n : ℕ) (b : List ℕ) (r : Run) → length (schedule_from n b r) ≤ n
+Short : (n : ℕ) (b : List ℕ) (r : Run) → length (schedule_from n b r) ≤ n
 unfolding schedule_from
-short zero b r = omega arith
-short (suc n) b r = elim (ℕ_discrete (ready_of r b).word 0) [
+Short zero b r = omega arith
+Short (suc n) b r = elim (ℕ_discrete (ready_of r b).word 0) [
   | yes z ↦ rw (eq-eqb (ready_of r b).word 0 z) (omega arith)
-  | no z ↦ rw (ne_eqb (ready_of r b).word 0 z) (omega (arith, short n b (behind_of r (next_task b r) (next_of r b (next_task b r)))))
+  | no z ↦ rw (ne_eqb (ready_of r b).word 0 z) (omega (arith, Short n b (behind_of r (next_task b r) (next_of r b (next_task b r)))))
 ]
 
 pub schedule_short : (b : List ℕ) (r : Run) → length (schedule_of b r) ≤ left_over r
-schedule_short b r = short (left_over r) b r
+schedule_short b r = Short (left_over r) b r
 
 -- as many steps as the order has are enough, or as many as accesses are left
 pub schedule_within : (b : List ℕ) (n : ℕ) (r : Run) → sound_of r (length b) ≡ true → Shaped r → length (schedule_of b r) ≤ n → schedule_from n b r ≡ schedule_of b r
@@ -112,11 +110,11 @@ finishes (suc n) b x w = elim (standing x.run b w.sound) [
 ]
 
 -- an access that may be done, in a run without a memory
-behind_open : (b : List ℕ) (r : Run) (t : ℕ) (op : Op) (next : ℕ) → next_of r b t ≡ Open op next → behind_of r t (next_of r b t) ≡ moved_of r t next
+behind_open : (b : List ℕ) (r : Run) (t : ℕ) (op : Op) (next : ℕ) → next_of r b t ≡ may_go op next → behind_of r t (next_of r b t) ≡ moved_of r t next
 unfolding behind_of
 behind_open b r t op next o = rw o
 
-pub ran_one : (b : List ℕ) (r : Run) (t : ℕ) (op : Op) (next : ℕ) (ts : List ℕ) → next_of r b t ≡ Open op next → ran_by b r (t ∷ ts) ≡ ran_by b (moved_of r t next) ts
+pub ran_one : (b : List ℕ) (r : Run) (t : ℕ) (op : Op) (next : ℕ) (ts : List ℕ) → next_of r b t ≡ may_go op next → ran_by b r (t ∷ ts) ≡ ran_by b (moved_of r t next) ts
 unfolding ran_by
 ran_one b r t op next ts o = ap (λ (q : Run). ran_by b q ts) (behind_open b r t op next o)
 

@@ -4,7 +4,6 @@ use Rattle.std.proofs.Common.{ap, ◌∙◌, length-set}
 use native.Mathlib.Omega.{arith}
 use Rattle.std.proofs.Math.ListN.{length}
 use Rattle.codec.specs.declared.Op.{Op}
-use Rattle.codec.specs.Store.{store}
 use Rattle.codec.specs.Laws.Store.{store-none, store-cons}
 use Rattle.replayer.specs.declared.ReadyWord.{ReadyWord}
 use Rattle.pending.specs.declared.Run.{Run}

@@ -1,7 +1,5 @@
 -- A run as columns: T, N, and one list of 16 each for the tasks' places, ends, numbers of accesses done, and counts.
-use Rattle.std.specs.Prelude.{Bool, not, List, ℕ, ◌+◌, ◌<◌, ltb, get_or, ◌≡◌}
-use Rattle.std.proofs.Common.{◌∙◌}
-use Rattle.std.proofs.Math.Decide.{ℕ_discrete}
+use Rattle.std.specs.Prelude.{Bool, not, List, ℕ, ltb, get_or}
 use Rattle.codec.specs.Limit.{max_tasks}
 use Rattle.pending.specs.declared.TaskRun.{TaskRun}
 use Rattle.pending.specs.declared.Run.{Run}

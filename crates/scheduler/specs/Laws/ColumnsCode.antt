@@ -1,7 +1,6 @@
 -- Columns during a play: the run they represent is sound, and the notes are true of it. A note says how far a waiting task's orderings
 -- have been tested (`Visit`).
-use Rattle.std.specs.Prelude.{◌≡◌, true, List, ℕ, ◌+◌, length}
-use Rattle.std.proofs.Common.{◌∙◌}
+use Rattle.std.specs.Prelude.{◌≡◌, true, List, ℕ, length}
 use Rattle.codec.specs.Limit.{max_tasks}
 use Rattle.scheduler.specs.Laws.Columns.{run_of}
 use Rattle.pending.specs.Sound.{sound_of}

@@ -1,13 +1,10 @@
 -- A play reaches its end: each step taken leaves one access fewer, so the allowed number of steps is never used up before, and at the end
 -- no task is ready, or the step of the lowest ready one gives 19.
 use Rattle.std.specs.Prelude.{◌≡◌, true, false, List, length}
-use Rattle.std.proofs.Common.{◌∙◌}
-use Prim.Native.Nat.{ℕ, ◌+◌, ◌≤◌, ◌<◌}
-use Rattle.std.proofs.Math.Decide.{ℕ_discrete}
+use Prim.Native.Nat.{ℕ, ◌+◌}
 use Rattle.codec.specs.declared.Op.{Op}
 use Rattle.scheduler.specs.Finish.{Play, word_at, task_next, goes_on, onward, left_over}
 use Rattle.pending.specs.Laws.Moved.{Shaped}
-use Rattle.replayer.specs.Laws.ReadyOf.{ready}
 use Rattle.pending.specs.Run.{cell_count}
 use Rattle.pending.specs.Sound.{sound_of}
 use Rattle.replayer.specs.Laws.StepOf.{Differs}

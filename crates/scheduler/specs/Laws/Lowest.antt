@@ -1,29 +1,25 @@
 -- The lowest ready task of a run and its next access, if there is one (document 01, "Replay"); and the run after that access.
-use Rattle.std.specs.Prelude.{cond, true, List, ℕ, ◌+◌, ◌≤◌, ◌<◌, eqb, ◌≡◌, length}
-use Rattle.std.proofs.Common.{◌∙◌}
+use Rattle.std.specs.Prelude.{Option, Some, None, Ok, Err, cond, true, List, ℕ, ◌+◌, ◌<◌, eqb, ◌≡◌, length}
 use Rattle.pending.specs.declared.Run.{Run}
-use Rattle.scheduler.specs.declared.lowest.NextStep.{NextStep}
-use Rattle.scheduler.specs.declared.lowest.NextStep.TheVariants.{Ready, Stopped}
-use Rattle.pending.specs.declared.next.Next.{Next}
-use Rattle.pending.specs.declared.next.Next.TheVariants.{Open, Held, Refused}
-use Rattle.pending.specs.Next.{next_of}
+use Rattle.scheduler.specs.declared.lowest.Chosen.{Chosen}
+use Rattle.pending.specs.Next.{Next, may_go, next_of}
 use Rattle.replayer.specs.ReadyOf.{ready_of, has_left}
 use Rattle.scheduler.specs.Schedule.{next_task, behind_of}
 use Rattle.codec.specs.declared.Op.{Op}
 use Rattle.codec.specs.Limit.{max_tasks}
 use Rattle.scheduler.specs.Finish.{left_over}
-use Rattle.replayer.specs.Laws.ReadyOf.{ready}
 use Rattle.pending.specs.Run.{moved_of}
 use Rattle.pending.specs.Sound.{sound_of}
 use Rattle.scheduler.specs.Laws.Visit.{Noted}
 
-abbrev pub ready_at : ℕ → Next → NextStep
-ready_at t (Open op next) = Ready t op
-ready_at t Held = Stopped
-ready_at t (Refused c) = Stopped
+-- a task with its access, if it may be done
+abbrev pub ready_at : ℕ → Next → Option Chosen
+ready_at t (Ok (Some w)) = Some (record { task = t; op = w.op })
+ready_at t (Ok None) = None
+ready_at t (Err c) = None
 
-unfoldable pub lowest_of : Run → List ℕ → NextStep
-lowest_of r b = cond (eqb (ready_of r b).word 0) Stopped (ready_at (next_task b r) (next_of r b (next_task b r)))
+unfoldable pub lowest_of : Run → List ℕ → Option Chosen
+lowest_of r b = cond (eqb (ready_of r b).word 0) None (ready_at (next_task b r) (next_of r b (next_task b r)))
 
 -- the run after that access, or unchanged if no task is ready
 unfoldable pub after_of : Run → List ℕ → Run
@@ -36,7 +32,7 @@ pub record IsNext (r : Run) (b : List ℕ) (t : ℕ) (op : Op) (next : ℕ) : Ty
   pub left : has_left r t ≡ true
   pub goes : (ready_of r b).word ≡ 0 → ⊥
   pub first : next_task b r ≡ t
-  pub opens : next_of r b t ≡ Open op next
+  pub opens : next_of r b t ≡ may_go op next
 
 -- the run after its step
 pub record SteppedTo (r : Run) (b : List ℕ) (t : ℕ) (op : Op) (q : Run) : Type 0 where

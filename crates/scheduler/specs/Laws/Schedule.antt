@@ -1,13 +1,10 @@
 -- The order of a play: it is the order in which the play to the end steps the tasks, up to the first step that is not taken; if no task is
 -- ready at the end, each of its steps is taken.
-use Rattle.std.specs.Prelude.{◌≡◌, true, List, [], ◌∷◌, ℕ, ◌≤◌}
-use Rattle.std.proofs.Common.{◌∙◌}
-use Rattle.std.proofs.Math.Decide.{ℕ_discrete}
+use Rattle.std.specs.Prelude.{◌≡◌, true, List, [], ◌∷◌, ℕ}
 use Rattle.scheduler.specs.Finish.{Play, takes_step, stepped_by, goes_on, onward}
 use Rattle.scheduler.specs.Laws.Finish.{Playing}
 use Rattle.pending.specs.Run.{moved_of}
 use Rattle.scheduler.specs.Schedule.{played_by}
-use Rattle.replayer.specs.Laws.StepOf.{taken}
 use Rattle.replayer.specs.StepOf.{step_of}
 
 -- each step of a list is taken in its place: its number is 0

@@ -1,6 +1,5 @@
 -- The loop that writes the order: what has been written, followed by what is still to come, is the order.
-use Rattle.std.specs.Prelude.{◌≡◌, List, [], ℕ, ◌+◌, ◌-◌, ◌≤◌, ◌<◌}
-use Rattle.std.proofs.Common.{◌∙◌}
+use Rattle.std.specs.Prelude.{◌≡◌, List, ℕ, ◌+◌, ◌-◌, ◌≤◌}
 use Rattle.std.proofs.Math.ListN.{length}
 use Rattle.codec.specs.Store.{store}
 use Rattle.pending.specs.declared.Run.{Run}

@@ -1,9 +1,5 @@
 use mathlib.Core.Path.{refl}
-use Prim.Native.Nat.{◌-◌}
-use Rattle.codec.specs.Limit.{max_tasks}
-use Rattle.pending.specs.Laws.Each.{Filled}
 use Rattle.pending.proofs.Laws.Each.{filled_none, filled_more, filled-all}
-use Rattle.scheduler.specs.Laws.Columns.{task_of}
 use Rattle.scheduler.proofs.columns.run_of.Goals as goal
 
 pub loop-t-init : goal.loop-t-init

@@ -1,11 +1,11 @@
 use mathlib.Core.Path.{◌≡◌, refl, sym, ap, ◌∙◌}
-use mathlib.Core.Bool.{true, false}
-use Prim.Native.Nat.{ℕ, ◌-◌, ◌≤◌, ◌<◌}
+use mathlib.Core.Bool.{true}
+use Rattle.std.specs.Prelude.{is_some}
+use Prim.Native.Nat.{◌<◌}
 use native.Mathlib.Omega.{arith}
 use lib.ListN.{length}
 use Rattle.codec.specs.Limit.{max_tasks}
 use Rattle.pending.specs.declared.Run.{Run}
-use Rattle.replayer.proofs.Else.{closed_next}
 use Rattle.pending.specs.Laws.Look.{OneTask}
 use Rattle.replayer.specs.ReadyOf.{is_ready}
 use Rattle.pending.specs.Run.{limits_of}
@@ -13,16 +13,14 @@ use Rattle.pending.specs.Laws.Sound.{Sound}
 use Rattle.pending.proofs.Laws.Sound.{sound_facts}
 use Rattle.scheduler.specs.Laws.Columns.{task_of, run_of}
 use Rattle.scheduler.proofs.Laws.Columns.{columns_task, columns_one}
-use Rattle.scheduler.specs.Laws.ColumnsCode.{Columned}
 use Rattle.scheduler.proofs.Laws.ColumnsCode.{columned_noted, columned_moved, columned_on}
 use Rattle.scheduler.specs.Laws.Lowest.{lowest_of, after_of}
 use Rattle.scheduler.specs.Laws.Lowest.{IsNext}
 use Rattle.scheduler.proofs.Laws.Lowest.{ready-left, lowest-next, lowest-none, visit_first, visit_all}
 use Rattle.scheduler.specs.Laws.Visit.{Visited}
 use Rattle.scheduler.proofs.Laws.Visit.{none_more, own_note}
-use borrow.Enum.Refused.{opened}
 use Rattle.scheduler.proofs.lowest.lowest.Goals as goal
-use Rattle.scheduler.proofs.lowest.lowest.Goals.{After-visit-n, At-loop-t, In-Open, In-loop-t}
+use Rattle.scheduler.proofs.lowest.lowest.Goals.{After-visit-going, At-loop-t, In-Some, In-loop-t}
 
 -- the run that the columns represent, and its soundness
 abbrev run : At-loop-t → Run
@@ -43,15 +41,15 @@ one c = let a = c.args in
     columns_one a.tasks a.objects a.fields l.places a.ends.now l.dones a.counts.now l.invariant.0.dones_all l.t (few c)
 
 -- what `visit` found, and the next step if the task may go
-visited : (c : After-visit-n) →
-    Visited (run (goal.at.After-visit-n c).At-loop-t) c.args.bytes.now c.loop-t.t c.visit-n.new.scans c.visit-n.new.ats c.visit-n.result
-visited c = c.visit-n.ensures (run (goal.at.After-visit-n c).At-loop-t) (one (goal.at.After-visit-n c).In-loop-t) c.loop-t.invariant.0.noted
+visited : (c : After-visit-going) →
+    Visited (run (goal.at.After-visit-going c).At-loop-t) c.args.bytes.now c.loop-t.t c.visit-going.new.scans c.visit-going.new.ats c.visit-going.result
+visited c = c.visit-going.ensures (run (goal.at.After-visit-going c).At-loop-t) (one (goal.at.After-visit-going c).In-loop-t) c.loop-t.invariant.0.noted
 
-ready : (c : In-Open) → is_ready (run (goal.at.In-Open c).At-loop-t) c.args.bytes.now c.loop-t.t ≡ true
-ready c = rw c.in-Open.is at (visited (goal.at.In-Open c).After-visit-n).ready
+ready : (c : In-Some) → is_ready (run (goal.at.In-Some c).At-loop-t) c.args.bytes.now c.loop-t.t ≡ true
+ready c = rw c.in-Some.is at (visited (goal.at.In-Some c).After-visit-going).ready
 
-next : (c : In-Open) → IsNext (run (goal.at.In-Open c).At-loop-t) c.args.bytes.now c.loop-t.t c.in-Open.op c.in-Open.next
-next c = visit_first _ _ c.loop-t.invariant.0.sound _ _ _ c.loop-t-test.true (ready c) ((visited (goal.at.In-Open c).After-visit-n).opens _ _ c.in-Open.is) c.loop-t.invariant.2
+next : (c : In-Some) → IsNext (run (goal.at.In-Some c).At-loop-t) c.args.bytes.now c.loop-t.t c.in-Some.open.op c.in-Some.open.next
+next c = visit_first _ _ c.loop-t.invariant.0.sound _ _ _ c.loop-t-test.true (ready c) ((visited (goal.at.In-Some c).After-visit-going).opens _ c.in-Some.is) c.loop-t.invariant.2
 
 pub loop-t-init : goal.loop-t-init
 loop-t-init c = (c.requires, omega arith, (λ u h. absurd (omega arith)), refl)
@@ -80,30 +78,30 @@ offset_bounds-counts-t c = omega (arith, few (goal.at.offset_bounds-counts-t c).
 pub bounds-counts-t : goal.bounds-counts-t
 bounds-counts-t c = few (goal.at.bounds-counts-t c).In-loop-t
 
-pub visit-n-requires : goal.visit-n-requires
-visit-n-requires c = record { tasks_le_max_tasks = ((sound (goal.at.visit-n-requires c).In-loop-t).few_tasks, few (goal.at.visit-n-requires c).In-loop-t, rw (columns_task _ _ _ _ _ _ _ _ (few (goal.at.visit-n-requires c).In-loop-t)) at ((sound (goal.at.visit-n-requires c).In-loop-t).task _ c.loop-t-test.true).end); note = own_note _ _ _ _ _ _ _ _ (one (goal.at.visit-n-requires c).In-loop-t) c.loop-t.invariant.0.noted }
+pub visit-going-requires : goal.visit-going-requires
+visit-going-requires c = record { tasks_le_max_tasks = ((sound (goal.at.visit-going-requires c).In-loop-t).few_tasks, few (goal.at.visit-going-requires c).In-loop-t, rw (columns_task _ _ _ _ _ _ _ _ (few (goal.at.visit-going-requires c).In-loop-t)) at ((sound (goal.at.visit-going-requires c).In-loop-t).task _ c.loop-t-test.true).end); note = own_note _ _ _ _ _ _ _ _ (one (goal.at.visit-going-requires c).In-loop-t) c.loop-t.invariant.0.noted }
 
-pub offset_bounds-places-t-in-Open : goal.offset_bounds-places-t-in-Open
-offset_bounds-places-t-in-Open c = omega (arith, few (goal.at.offset_bounds-places-t-in-Open c).In-loop-t)
+pub offset_bounds-places-t-in-Some : goal.offset_bounds-places-t-in-Some
+offset_bounds-places-t-in-Some c = omega (arith, few (goal.at.offset_bounds-places-t-in-Some c).In-loop-t)
 
-pub bounds-places-t-in-Open : goal.bounds-places-t-in-Open
-bounds-places-t-in-Open c = few (goal.at.bounds-places-t-in-Open c).In-loop-t
+pub bounds-places-t-in-Some : goal.bounds-places-t-in-Some
+bounds-places-t-in-Some c = few (goal.at.bounds-places-t-in-Some c).In-loop-t
 
 pub overflow_add-dones : goal.overflow_add-dones
-overflow_add-dones c = let h = rw (columns_task _ _ _ _ _ _ _ _ (few (goal.at.overflow_add-dones c).In-loop-t)) at (ready-left (run (goal.at.overflow_add-dones c).At-loop-t) c.args.bytes.now _ (ready (goal.at.overflow_add-dones c).In-Open)) in
-    omega (arith, h, c.struct_known-1.given)
+overflow_add-dones c = let h = rw (columns_task _ _ _ _ _ _ _ _ (few (goal.at.overflow_add-dones c).In-loop-t)) at (ready-left (run (goal.at.overflow_add-dones c).At-loop-t) c.args.bytes.now _ (ready (goal.at.overflow_add-dones c).In-Some)) in
+    omega (arith, h)
 
-pub offset_bounds-dones-t-in-Open : goal.offset_bounds-dones-t-in-Open
-offset_bounds-dones-t-in-Open c = omega (arith, few (goal.at.offset_bounds-dones-t-in-Open c).In-loop-t)
+pub offset_bounds-dones-t-in-Some : goal.offset_bounds-dones-t-in-Some
+offset_bounds-dones-t-in-Some c = omega (arith, few (goal.at.offset_bounds-dones-t-in-Some c).In-loop-t)
 
-pub bounds-dones-t-in-Open : goal.bounds-dones-t-in-Open
-bounds-dones-t-in-Open c = few (goal.at.bounds-dones-t-in-Open c).In-loop-t
+pub bounds-dones-t-in-Some : goal.bounds-dones-t-in-Some
+bounds-dones-t-in-Some c = few (goal.at.bounds-dones-t-in-Some c).In-loop-t
 
-pub returns-in-Open : goal.returns-in-Open
-returns-in-Open c = let a = c.args in
+pub returns-in-Some : goal.returns-in-Some
+returns-in-Some c = let a = c.args in
     let i = c.loop-t.invariant in
-    let n = next (goal.at.returns-in-Open c).In-Open in
-    let w = columned_noted i.0 (visited (goal.at.returns-in-Open c).After-visit-n).noted in
+    let n = next (goal.at.returns-in-Some c).In-Some in
+    let w = columned_noted i.0 (visited (goal.at.returns-in-Some c).After-visit-going).noted in
     let l = lowest-next _ _ _ _ _ n in
     record { value = sym l.0 ∙ ap (λ (r : Run). lowest_of r a.bytes.now) i.3; counts_after = columned_moved w n ∙ sym l.1 ∙ ap (λ (r : Run). after_of r a.bytes.now) i.3; columned = columned_on w n }
 
@@ -118,5 +116,5 @@ returns c = let a = c.args in
 
 pub loop-t-preserved : goal.loop-t-preserved
 loop-t-preserved c = let i = c.loop-t.invariant in
-    let v = visited (goal.at.loop-t-preserved c).After-visit-n in
-    (columned_noted i.0 v.noted, omega (arith, c.loop-t-test.true), none_more _ _ _ i.2 (v.ready ∙ closed_next c.visit-n.result (opened c.in_default.in_default-own.keys2)), i.3)
+    let v = visited (goal.at.loop-t-preserved c).After-visit-going in
+    (columned_noted i.0 v.noted, omega (arith, c.loop-t-test.true), none_more _ _ _ i.2 (v.ready ∙ ap is_some c.in_default.is), i.3)

@@ -1,19 +1,8 @@
-use mathlib.Core.Path.{sym, ◌∙◌}
-use native.Mathlib.Omega.{arith}
 use Prim.Native.Nat.{◌-◌}
-use lib.ListN.{length, length-set, length-map}
-use borrow.Author.Tests.{not-true, not-false}
-use Rattle.pending.specs.declared.Run.{Run}
-use Rattle.pending.specs.Laws.Moved.{Shaped}
+use lib.ListN.{length}
 use Rattle.scheduler.specs.Laws.Columns.{run_of}
-use Rattle.scheduler.proofs.Laws.Columns.{columns_back}
 use Rattle.scheduler.specs.Laws.ColumnsCode.{Columned}
-use Rattle.scheduler.proofs.Laws.ColumnsCode.{columned_none}
-use Rattle.scheduler.specs.Laws.Lowest.{SteppedTo}
-use Rattle.scheduler.proofs.Laws.Lowest.{found-next, found_none}
 use Rattle.scheduler.specs.Laws.ScheduleCode.{Writing}
-use Rattle.scheduler.proofs.Laws.ScheduleCode.{wrote_none, writing_none, writing_more, writing_stops, writing_full}
-use Rattle.scheduler.proofs.Else.{not-ready}
 use Rattle.scheduler.proofs.schedule.schedule.Given as goal
 
 abbrev pub invariant-loop-steps : goal.invariant-loop-steps

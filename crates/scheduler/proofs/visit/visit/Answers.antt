@@ -37,4 +37,5 @@ returns-then-scan-noted c = let j = resumed (goal.at.returns-then-scan-noted c).
 pub returns : goal.returns
 returns c = let s = resuming (goal.at.returns c).Joined-from-noted in
     let k = c.look_at-k.ensures in
-    λ r w n. visit_looks _ _ _ _ _ _ _ _ w n c.if-x.false _ (s.looks _ k.looks) _ _ (noted_set _ _ _ _ _ _ _ _ w n c.requires.tasks_le_max_tasks.1 _ _ (s.note _ _ k.judged_to))
+    rw c.unwrap_or.ensures
+    (λ r w n. visit_looks _ _ _ _ _ _ _ _ w n c.if-x.false _ (s.looks _ k.looks) _ _ (noted_set _ _ _ _ _ _ _ _ w n c.requires.tasks_le_max_tasks.1 _ _ (s.note _ _ k.judged_to)))
