@@ -1,5 +1,6 @@
 -- The first three lines of a text: T and N, or T, N and F; N owners; N times F starting values.
-use Rattle.std.specs.Prelude.{Bool, true, cond, ◌&&◌, List, [], ◌∷◌, map, ℕ, min, eqb, length, Option, Some, None}
+use Rattle.std.specs.Prelude.{Bool, true, cond, ◌&&◌, List, [], ◌∷◌, map, ℕ, min, eqb, length, Option, Some, None, is_some}
+use Rattle.std.specs.Option.{unwrap_or}
 use Rattle.lines.specs.declared.field.Field.{Field}
 use Rattle.lines.specs.declared.rows.Sizes.{Sizes}
 use Rattle.lines.specs.Asked.{word_at}
@@ -30,6 +31,13 @@ sizes_of f =
     cond (is_row 2 f) (Some (record { tasks = number_at f 0; objects = number_at f 1; fields = None }))
     (cond (is_row 3 f) (Some (record { tasks = number_at f 0; objects = number_at f 1; fields = Some (number_at f 2) }))
     None)
+
+-- whether the lines of accesses name a field, and F, 0 if not
+abbrev pub names_field : Sizes → Bool
+names_field z = is_some z.fields
+
+abbrev pub fields_in : Sizes → ℕ
+fields_in z = unwrap_or z.fields 0
 
 -- an owner fits a byte; a larger number becomes 255, which is below no T
 abbrev pub owner_of : ℕ → ℕ

@@ -10,7 +10,7 @@ use crate::words::{bare, next_word};
 use codec::limit::OBJECTS;
 
 // T and N as a line gives them, and F if the line has it.
-#[derive(Clone, Copy, Default)]
+#[derive(Clone, Copy)]
 pub struct Sizes {
     pub tasks: usize,
     pub objects: usize,

@@ -12,8 +12,7 @@ use Rattle.lines.specs.Number.{number_limit}
 use Rattle.lines.specs.Words.{words_of}
 use Rattle.reader.specs.Parse.{all_below}
 use borrow.Author.Tests.{lt-ltb}
-use Rattle.std.specs.Option.{unwrap_or}
-use Rattle.lines.specs.Rows.{is_row, values_of, numbers_of, number_at, sizes_of}
+use Rattle.lines.specs.Rows.{is_row, values_of, numbers_of, number_at, sizes_of, fields_in}
 
 pub numbers-some : (n : ℕ) (f : List Field) → is_row n f ≡ true → numbers_of n f ≡ Some (values_of f)
 unfolding numbers_of
@@ -71,7 +70,7 @@ all-low (w ∷ ws) = rw (lt-ltb (value_of (field_of w)) number_limit (field-low 
 pub values_low : (line : List ℕ) → all_below number_limit (values_of (fields_of line)) ≡ true
 values_low line = all-low (words_of line)
 
-pub sizes_low : (line : List ℕ) (z : Sizes) → sizes_of (fields_of line) ≡ Some z → (z.objects < number_limit) × (unwrap_or z.fields 0 < number_limit)
+pub sizes_low : (line : List ℕ) (z : Sizes) → sizes_of (fields_of line) ≡ Some z → (z.objects < number_limit) × (fields_in z < number_limit)
 unfolding sizes_of
 sizes_low line z e =
     let f = fields_of line in
