@@ -206,7 +206,8 @@ pub fn is_option(word: &[u8]) -> bool
     word.first() == Some(&b'-')
 }
 
-// How many words the program was started with, its own name among them. std says nothing of how many there are, so there is nothing to promise.
+// How many words the program was started with, its own name among them. std says nothing of how many there are, so there is nothing to
+// promise.
 pub fn word_count(rt: HostRuntime) -> usize {
     (0..usize::MAX)
         .find(|at| matches!(rt.arg(*at, &mut []), Err(FillError::NotPresent)))
