@@ -9,7 +9,7 @@ pub mod sound;
 
 // How far a task has got: the place of its next record, its body's end, the number of accesses done and its section's count. All fields
 // are `usize`, like the reader's offsets: a count that is never narrowed needs no proof that it fits.
-#[derive(Clone, Copy)]
+#[derive(Clone, Copy, Debug, Default, PartialEq, Eq)]
 pub struct TaskRun {
     pub place: usize,
     pub end: usize,
@@ -19,7 +19,7 @@ pub struct TaskRun {
 
 // The state of a replay: T, N, the tasks and the number of fields, which says which head the recording has: 0 for head 1, where an object is a single
 // cell, else F. Entries from T on have no meaning. The blank run is all zero.
-#[derive(Clone, Copy)]
+#[derive(Clone, Copy, Debug, Default, PartialEq, Eq)]
 pub struct Run {
     pub tasks: usize,
     pub objects: usize,

@@ -36,7 +36,8 @@ pub(crate) fn visit(
     }
     let noted = ats[own];
     let mut from = x.place;
-    if from < noted {
+    let ahead = from < noted;
+    if ahead {
         let scan = first_unmet(bytes, scans[own], noted, dones);
         if scan < noted {
             scans[own] = scan;

@@ -1,13 +1,11 @@
 -- Why a play was stopped (document 02, F-3: number 19), as text: `the read at byte 66 got 7, but object 0 holds 5`, under head 7
 -- `the read at byte 66 got 7, but field 1 of object 0 holds 5` (F-6), from the read's record and the memory.
-use Rattle.std.specs.Prelude.{cond, List, [], ◌∷◌, ◌++◌, ℕ, get_or, drop}
+use Rattle.std.specs.Prelude.{Err, Ok, cond, List, [], ◌∷◌, ◌++◌, ℕ, get_or, drop}
 use Rattle.codec.specs.Cell.{op_cell}
-use Rattle.codec.specs.Decode.{record_of}
+use Rattle.codec.specs.Decode.{Decoded, record_of}
 use Rattle.codec.specs.Kind.{has_field}
-use Rattle.codec.specs.Number.{in_body}
 use Rattle.codec.specs.declared.Op.{Op}
-use Rattle.codec.specs.declared.Record.{Record}
-use Rattle.codec.specs.declared.Record.TheVariants.{Head, Section, Ordering, Access, Refused}
+use Rattle.codec.specs.declared.Record.TheVariants.{Head, Section, Ordering, Access}
 use Rattle.text.specs.Decimal.{field_of}
 
 -- `the read at byte `, `got `, ` but object `, ` but field `, `of object `, `holds `
@@ -39,16 +37,16 @@ unfoldable pub differ_line : ℕ → Op → ℕ → List ℕ
 differ_line at o held = (read_words ++ field_of at 32) ++ (got_word ++ field_of o.value 44) ++ cell_words o ++ (holds_word ++ field_of held 10)
 
 -- for a record that is an access, given the number of fields (0 under head 1); nothing for any other
-unfoldable pub on_differ : ℕ → List ℕ → ℕ → Record → List ℕ
-on_differ fields memory at (Head kind t n width) = []
-on_differ fields memory at (Section t n s) = []
-on_differ fields memory at (Ordering p) = []
-on_differ fields memory at (Access o) = differ_line at o (get_or memory (op_cell fields o) 0)
-on_differ fields memory at (Refused n) = []
+unfoldable pub on_differ : ℕ → List ℕ → ℕ → Decoded → List ℕ
+on_differ fields memory at (Ok (Head kind t n width)) = []
+on_differ fields memory at (Ok (Section t n s)) = []
+on_differ fields memory at (Ok (Ordering p)) = []
+on_differ fields memory at (Ok (Access o)) = differ_line at o (get_or memory (op_cell fields o) 0)
+on_differ fields memory at (Err n) = []
 
 -- for the record at an offset
 abbrev pub differ_of : ℕ → List ℕ → List ℕ → ℕ → List ℕ
-differ_of fields b memory at = on_differ fields memory at (record_of in_body (drop at b))
+differ_of fields b memory at = on_differ fields memory at (record_of (drop at b))
 
 -- the most bytes that the cell can have, and the line
 abbrev pub cell_most : ℕ

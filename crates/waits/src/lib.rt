@@ -3,7 +3,7 @@
 
 #![tactic(auto)]
 
-ghost use Rattle.std.specs.Prelude.{◌++◌, ◌≡◌, ◌+◌, ◌<◌, ◌≤◌, length, get_or};
+ghost use Rattle.std.specs.Prelude.{◌++◌, ◌≡◌, ◌+◌, ◌<◌, ◌≤◌, length};
 ghost use Rattle.codec.specs.Limit.{max_tasks};
 ghost use Rattle.pending.specs.declared.Run.{Run};
 ghost use Rattle.pending.specs.Laws.Look.{OneTask};
@@ -16,14 +16,14 @@ ghost use Rattle.waits.specs.Waits.{wait_line, wait_of, waits_of, line_most, wai
 
 use codec::cell::op_cell;
 use codec::kind::has_field;
-use codec::limit::{TASKS, least};
-use codec::number::IN_BODY;
+use codec::limit::TASKS;
 use codec::read::record;
 use codec::{Op, Record};
 use entries::Limits;
 use entries::entry::{number_at, source_at};
 use pending::next::{dones_of, look_at};
 use pending::{Run, TaskRun};
+use replayer::stepping::held;
 use text::{put_byte, put_bytes, put_field};
 
 // The most bytes that the lines can have, one for each of 16 tasks.
@@ -104,16 +104,6 @@ pub fn put_waits(bytes: &[u8], run: Run, out: &mut [u8]) -> usize
     at
 }
 
-// The value of a cell, 0 past the memory's end.
-fn held(memory: &[u32], cell: usize) -> u32
-    ensures { result ≡ get_or memory.now cell 0 }
-{
-    if cell < memory.len() {
-        return memory[cell];
-    }
-    0
-}
-
 // The object of a record, or the field of the object if the record names one.
 fn put_cell(out: &mut [u8], at: usize, op: Op) -> usize
     requires { at + cell_most ≤ length out.old }
@@ -143,8 +133,10 @@ pub fn put_differ(bytes: &[u8], fields: usize, memory: &[u32], at: usize, out: &
     requires { (fields < 65536) × (differ_most ≤ length out.old) }
     ensures { Appended (differ_of fields bytes.now memory.now at) out.old 0 out.new result }
 {
-    let from = least(at, bytes.len());
-    let r = record(&bytes[from..], IN_BODY);
+    let from = at.min(bytes.len());
+    let Ok(r) = record(&bytes[from..]) else {
+        return 0;
+    };
     let Record::Access(op) = r else {
         return 0;
     };

@@ -1,10 +1,9 @@
 -- A task that has accesses left and is not ready, and whose next entry can be read, has its line.
-use Rattle.std.specs.Prelude.{◌≡◌, refl, Bool, true, false, List, [], ◌∷◌, ℕ, ◌+◌, ◌<◌, leb}
+use Rattle.std.specs.Prelude.{Ok, ◌≡◌, refl, Bool, true, false, List, [], ◌∷◌, ℕ, ◌+◌, ◌<◌, leb}
 use Rattle.std.proofs.Common.{sym, ◌∙◌, arith, ltb-true}
 use Rattle.codec.specs.declared.Position.{Position}
 use Rattle.codec.specs.Kind.{ordering_kind, length_of}
 use Rattle.codec.specs.Laws.Decide.{passes, fails, split}
-use Rattle.entries.specs.Reading.{read}
 use Rattle.entries.specs.Recording.{Entry}
 use Rattle.pending.specs.declared.Run.{Run}
 use Rattle.pending.specs.declared.TaskRun.{TaskRun}
@@ -29,14 +28,14 @@ some-unmet runs at (p ∷ ps) h = elim (split (leb p.number (done_of runs p.task
   | fails q ↦ rw q (record { place = at; ordering = p; is = refl })
 ]
 
-not-met : (runs : List TaskRun) (at : ℕ) (e : Entry) → is_open (judged runs at (read e)) ≡ false → all_met runs e.orderings ≡ false
+not-met : (runs : List TaskRun) (at : ℕ) (e : Entry) → is_open (judged runs at (Ok e)) ≡ false → all_met runs e.orderings ≡ false
 unfolding judged
 not-met runs at e h = elim (split (all_met runs e.orderings)) [
   | passes q ↦ absurd (let z : ◌≡◌ {A = Bool} true false = rw q at h in let y : ◌≡◌ {A = ℕ} 0 1 = cc in omega arith)
   | fails q ↦ q
 ]
 
-module _ (b : List ℕ) (r : Run) (t : ℕ) (l : has_left r t ≡ true) (n : is_ready r b t ≡ false) (e : Entry) (q : entry_next r b t ≡ read e) where
+module _ (b : List ℕ) (r : Run) (t : ℕ) (l : has_left r t ≡ true) (n : is_ready r b t ≡ false) (e : Entry) (q : entry_next r b t ≡ Ok e) where
   next-held : Held (unmet_next r b t)
   unfolding unmet_next unmet_in is_ready next_of
   next-held = rw q (some-unmet r.runs (task_at r.runs t).place e.orderings (not-met r.runs (task_at r.runs t).place e (rw (l, q) at n)))

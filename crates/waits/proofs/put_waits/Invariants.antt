@@ -1,11 +1,8 @@
-use mathlib.Core.Path.{◌≡◌, refl, sym}
+use mathlib.Core.Path.{◌≡◌}
 use Prim.Native.Nat.{◌≤◌, ◌-◌}
-use native.Mathlib.Omega.{arith}
 use lib.ListN.{length}
 use Rattle.text.specs.Appended.{Appended}
-use Rattle.text.specs.Laws.Appended.{joined, nothing}
 use Rattle.waits.specs.Waits.{waits_in}
-use Rattle.waits.proofs.Laws.Waits.{waits_none, waits_on, waits_short}
 use Rattle.waits.proofs.put_waits.Given as goal
 
 abbrev pub invariant-loop-t : goal.invariant-loop-t

@@ -1,6 +1,5 @@
 -- A task that has accesses left and is not ready, and whose next entry can be read, has its line.
-use Rattle.std.specs.Prelude.{◌≡◌, List, [], ◌∷◌, ℕ, ◌+◌, ◌<◌}
-use Rattle.std.proofs.Common.{◌∙◌}
+use Rattle.std.specs.Prelude.{◌≡◌, List, ℕ}
 use Rattle.codec.specs.declared.Position.{Position}
 use Rattle.pending.specs.declared.Run.{Run}
 use Rattle.pending.specs.Unmet.{Unmet, first, unmet_next}
