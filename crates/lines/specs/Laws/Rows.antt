@@ -1,6 +1,7 @@
 -- Laws of `Rows`.
-use Rattle.std.specs.Prelude.{◌≡◌, refl, true, false, List, [], ◌∷◌, map, ℕ, zero, suc, ◌<◌, get_or, Some, None}
-use Rattle.std.proofs.Common.{sym, arith}
+use Rattle.std.specs.Prelude.{◌≡◌, Option, is_some, refl, true, false, List, [], ◌∷◌, map, ℕ, zero, suc, ◌<◌, get_or, Some, None}
+use Rattle.std.proofs.Common.{true≢false, sym, arith}
+use Rattle.std.specs.Option.{unwrap_or}
 use Rattle.std.proofs.lemmas.Option.{none-some, same_Some}
 use Rattle.codec.specs.Laws.Decide.{passes, fails, split}
 use Rattle.lines.specs.declared.field.Field.{Field}
@@ -12,7 +13,7 @@ use Rattle.lines.specs.Number.{number_limit}
 use Rattle.lines.specs.Words.{words_of}
 use Rattle.reader.specs.Parse.{all_below}
 use borrow.Author.Tests.{lt-ltb}
-use Rattle.lines.specs.Rows.{is_row, values_of, numbers_of, number_at, sizes_of, fields_in}
+use Rattle.lines.specs.Rows.{is_row, values_of, numbers_of, number_at, sizes_of, names_field, fields_in}
 
 pub numbers-some : (n : ℕ) (f : List Field) → is_row n f ≡ true → numbers_of n f ≡ Some (values_of f)
 unfolding numbers_of
@@ -82,3 +83,11 @@ sizes_low line z e =
         | fails q ↦ absurd (none-some z (rw (p, q) at e))
       ]
     ]
+
+-- a line without F has 0 for it
+pub sizes_unnamed : (z : Sizes) → names_field z ≡ false → fields_in z ≡ 0
+sizes_unnamed z h = none (z.fields) h
+  where
+    none : (o : Option ℕ) → is_some o ≡ false → unwrap_or o 0 ≡ 0
+    none None h = refl
+    none (Some n) h = absurd (true≢false h)
