@@ -32,13 +32,7 @@ pub struct Stood {
 fn is_passed(number: u32) -> bool
     ensures { result ≡ is_passed number }
 {
-    if number == NO_TASK {
-        return true;
-    }
-    if number == FINISHED {
-        return true;
-    }
-    number == HELD
+    number == NO_TASK || number == FINISHED || number == HELD
 }
 
 // One step: its line if it is taken, `refused` and its number if it is passed.
@@ -124,10 +118,7 @@ fn is_over(run: Run, steps: usize, most: usize, counts: &[u32]) -> bool
     requires { length counts.now ≤ max_tasks }
     ensures { result ≡ (leb most steps || all_there counts.now run) }
 {
-    if most <= steps {
-        return true;
-    }
-    all_there(run, counts)
+    most <= steps || all_there(run, counts)
 }
 
 // The steps of a list, from the start of the output.
@@ -154,13 +145,21 @@ pub fn put_followed(
         at: 0,
         stopped: on,
     };
-    for i in 0..steps.len() {
+    for task in steps {
         let run = p.run;
         if is_over(run, p.steps, most, counts) {
             return p;
         }
-        let task = steps[i] as usize;
-        p = put_next(bytes, run, p.steps, memory, counts, task, out, p.at);
+        p = put_next(
+            bytes,
+            run,
+            p.steps,
+            memory,
+            counts,
+            *task as usize,
+            out,
+            p.at,
+        );
         let stopped = p.stopped;
         if stopped.number != 0 {
             return p;
