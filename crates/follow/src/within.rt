@@ -4,7 +4,7 @@ ghost use Rattle.codec.specs.Limit.{max_tasks};
 ghost use Rattle.pending.specs.Laws.Moved.{Shaped};
 ghost use Rattle.follow.specs.Within.{is_there, all_there, run_within};
 
-use pending::{Run, TaskRun};
+use pending::Run;
 
 // Whether a task has done as many accesses as its count; a task without a count never has.
 pub(crate) fn is_there(run: Run, counts: &[u32], task: usize) -> bool
@@ -40,9 +40,7 @@ pub fn within(run: Run, counts: &[u32]) -> Run
 {
     let mut runs = run.runs;
     for t in 0..counts.len() {
-        let x = runs[t];
-        let count = x.count.min(counts[t] as usize);
-        runs[t] = TaskRun { count, ..x };
+        runs[t].count = runs[t].count.min(counts[t] as usize);
     }
     Run { runs, ..run }
 }

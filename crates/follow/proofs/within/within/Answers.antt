@@ -10,7 +10,7 @@ loop-t-init c = (omega arith, sym (held_none c.args.run.runs))
 pub loop-t-preserved : goal.loop-t-preserved
 loop-t-preserved c = let a = c.args in
     let l = c.loop-t in
-    (omega arith, held_more a.counts.now a.run.runs l.runs l.t c.min-count.result l.invariant.1 (omega arith) (omega (arith, c.requires.0)) c.min-count.ensures)
+    (omega arith, held_more a.counts.now a.run.runs l.runs l.t c.min.result l.invariant.1 (omega arith) (omega (arith, c.requires.0)) c.min.ensures)
 
 pub returns : goal.returns
 returns c = let a = c.args in
