@@ -40,7 +40,7 @@ module _ (b out : List ℕ) where
   after = (playable_of b out).out
 
   pub record Answers : Type 0 where
-    -- 1. Bytes that do not Ok: the reader's number, 10 to 14, and offset.
+    -- 1. Bytes that do not read: the reader's number, 10 to 14, and offset.
     pub bytes_first : (c : Refusal) → parse b ≡ Err c → (answer ≡ refused_playable (number_of c.reason) c.offset 0) × ByReader (number_of c.reason)
     -- 2. 18 exactly if no list of tasks is an order of all accesses; with it the lowest task that stays held and what holds it up.
     pub without_order : (p : Parsed) → parse b ≡ Ok p → (answer.number ≡ no_order) ↔ ((order : List ℕ) → Plays p.recording.bodies order → ⊥)

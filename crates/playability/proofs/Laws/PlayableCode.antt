@@ -34,17 +34,20 @@ settles b s e = go (parse b) refl
         record { parsed = p; is = q; start = rw k; run = rw k; steps = rw k }
 
 -- bytes that are refused
-pub playable_refused : (b : List ℕ) (c : Refusal) → Err c ≡ settle_of b → (out : List ℕ)
-    → record { answer = refused_playable (number_of c.reason) c.offset 0; out = out } ≡ playable_of b out
+pub refused_bytes : (b : List ℕ) (c : Refusal) → Err c ≡ settle_of b → parse b ≡ Err c
 unfolding settle_of
-playable_refused b c e out = go (parse b) refl
+refused_bytes b c e = go (parse b) refl
   where
-    go : (x : Reading Parsed) → parse b ≡ x → record { answer = refused_playable (number_of c.reason) c.offset 0; out = out } ≡ playable_of b out
+    go : (x : Reading Parsed) → parse b ≡ x → parse b ≡ Err c
     go (Err d) q =
         let y : ◌≡◌ {A = Reading Settled} (Err c) (Err d) = rw q at e in
         let k : c ≡ d = cc in
-        rw k (sym (bytes-refused b out d q))
+        rw k q
     go (Ok p) q = absurd (let y : Err c ≡ Ok (settled_at b p) = rw q at e in let z : ◌≡◌ {A = ℕ} 0 1 = cc in omega arith)
+
+pub playable_refused : (b : List ℕ) (c : Refusal) → Err c ≡ settle_of b → (out : List ℕ)
+    → record { answer = refused_playable (number_of c.reason) c.offset 0; out = out } ≡ playable_of b out
+playable_refused b c e out = sym (bytes-refused b out c (refused_bytes b c e))
 
 module _ (b : List ℕ) (s : Settled) (e : Ok s ≡ settle_of b) where
   pub settled_sound : Sound s.run (length b)

@@ -12,7 +12,7 @@ use Rattle.reader.specs.Parse.{parse}
 use Rattle.pending.specs.declared.Run.{Run}
 use Rattle.pending.specs.Laws.Moved.{Shaped}
 use Rattle.pending.proofs.Laws.Moved.{moved_shaped}
-use Rattle.pending.specs.Run.{blank_run, moved_of}
+use Rattle.pending.specs.Run.{moved_of}
 use Rattle.pending.specs.Sound.{sound_of}
 use Rattle.replayer.proofs.Laws.OpenCode.{begun_opened}
 use Rattle.replayer.proofs.Laws.OpenOf.{opened-stands}

@@ -1,14 +1,11 @@
 -- F-2, proved: 18 is answered exactly if there is no order of all accesses among all lists of tasks, and the order that is written is one.
-use Rattle.std.specs.Prelude.{None, Err, Ok, ◌≡◌, refl, true, false, List, [], ◌∷◌, ◌++◌, ℕ, ◌+◌, ◌*◌, ◌≤◌, ◌<◌, leb, length, get_or}
+use Rattle.std.specs.Prelude.{None, Err, Ok, ◌≡◌, refl, true, false, List, [], ◌∷◌, ℕ, ◌+◌, ◌*◌, ◌≤◌, ◌<◌, leb, length, get_or}
 use Rattle.std.proofs.Common.{sym, ap, ◌∙◌, le_antisymm, arith, ltb-true, ltb-false, leb-true, leb-false}
 use Rattle.std.proofs.Math.Decide.{dec_lt}
 use Rattle.std.proofs.Math.ListN.{get_or-eq_default}
 use Rattle.codec.specs.declared.Position.{Position}
 use Rattle.codec.specs.Kind.{ordering_kind, length_of}
 use Rattle.codec.specs.Laws.Decide.{passes, fails, split}
-use Rattle.codec.specs.Number.{no_room, no_order}
-use Rattle.codec.specs.Store.{store}
-use Rattle.entries.specs.Accesses.{accesses_in}
 use Rattle.entries.specs.Reading.{Reading}
 use Rattle.entries.specs.Recording.{Entry, no_entry}
 use Rattle.history.specs.Closed.{Met}
@@ -24,8 +21,8 @@ use Rattle.replayer.specs.ReadyOf.{has_left}
 use Rattle.scheduler.specs.Schedule.{schedule_of, settled_of}
 use Rattle.playability.specs.declared.Playability.{Playability}
 use Rattle.playability.specs.Hold.{offset_in, hold_of}
-use Rattle.playability.specs.Order.{times, body_of, Allowed, Plays, LowestFirst, StaysHeld}
-use Rattle.playability.specs.PlayableOf.{PlayableOutcome, refused_playable}
+use Rattle.playability.specs.Order.{times, body_of, Allowed, Plays, StaysHeld}
+use Rattle.playability.specs.PlayableOf.{PlayableOutcome}
 use Rattle.playability.specs.Statement.{HeldUp, answer, after, Answers}
 use Rattle.playability.proofs.Laws.Counted.{plays-length}
 use Rattle.playability.specs.Laws.Held.{held, free}

@@ -23,7 +23,6 @@ use Rattle.pending.proofs.Laws.Next.{open_met}
 use Rattle.pending.specs.Met.{all_met}
 use Rattle.pending.specs.Next.{next_of}
 use Rattle.pending.specs.Run.{task_at, done_of, moved_of}
-use Rattle.replayer.specs.Laws.Along.{Along}
 use Rattle.replayer.proofs.Laws.Along.{along_opened, along_entry, along_moved, along_place}
 use Rattle.replayer.proofs.Laws.OpenOf.{opened-stands}
 use Rattle.replayer.specs.Laws.ReadyOf.{ready, nowhere}
@@ -34,7 +33,7 @@ use Rattle.replayer.specs.ReadyOf.{has_left, is_ready, ready_of}
 use Rattle.scheduler.specs.Schedule.{schedule_of, settled_of}
 use Rattle.scheduler.specs.Laws.Lowest.{IsNext}
 use Rattle.scheduler.proofs.Laws.Settled.{settled_keeps, settled_ends}
-use Rattle.playability.specs.Order.{times, body_of, Ready, Allowed, LowestFirst, size_of}
+use Rattle.playability.specs.Order.{times, body_of, Ready, size_of}
 use Rattle.playability.proofs.Laws.Order.{times-own, times-other, times_none, Stops, size-more}
 use Rattle.playability.specs.Laws.Walk.{Reached}
 

@@ -1,6 +1,6 @@
 -- The lowest task that has accesses left: one pass of the search, and what it finds.
 use Rattle.std.specs.Prelude.{Option, Some, None, ◌≡◌, true, false, List}
-use Prim.Native.Nat.{ℕ, ◌+◌, ◌-◌, ◌≤◌, ◌<◌}
+use Prim.Native.Nat.{ℕ, ◌+◌, ◌<◌}
 use Rattle.pending.specs.declared.Run.{Run}
 use Rattle.pending.specs.Unmet.{unmet_next}
 use Rattle.replayer.specs.ReadyOf.{has_left}
