@@ -19,12 +19,6 @@ fn mixed(digest: u64, x: u64) -> u64
     31 * (digest % 288230376151711744) + x
 }
 
-fn wide(x: u32) -> usize
-    ensures { result ≡ x }
-{
-    x as usize
-}
-
 fn access_word(number: u32, value: u32, row: u8, class: u8, written: usize) -> u64
     ensures { (result ≡ access_word number value row class written) × (result < 288230376151711744) }
 {
@@ -90,9 +84,9 @@ pub extern "C" fn wk_script(
         let at = 5 * i;
         let a = recorder::access(
             state,
-            wide(script[at]),
-            wide(script[at + 1]),
-            wide(script[at + 2]),
+            script[at] as usize,
+            script[at + 1] as usize,
+            script[at + 2] as usize,
             script[at + 3],
             script[at + 4],
             memory,

@@ -1,9 +1,7 @@
-use mathlib.Core.Path.{◌≡◌, ap, sym, ◌∙◌}
+use mathlib.Core.Path.{◌≡◌}
 use Prim.Native.Nat.{◌-◌, ◌≤◌, ◌<◌}
-use native.Mathlib.Omega.{arith}
 use lib.ListN.{length}
-use Rattle.timed.specs.ReplayOf.{Replayed, access_next, steps_in, replay_of}
-use Rattle.timed.specs.Laws.LoopsCode.{steps_over, steps-stop, steps-more, step-access, step_kept, step_turn}
+use Rattle.timed.specs.ReplayOf.{steps_in}
 use Rattle.timed.proofs.wk_replay.Given as goal
 
 abbrev pub invariant-loop : goal.invariant-loop

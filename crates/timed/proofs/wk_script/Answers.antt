@@ -1,5 +1,5 @@
 use mathlib.Core.Path.{◌≡◌, refl, ap}
-use Prim.Native.Nat.{◌+◌, ◌*◌, ◌-◌, ◌/◌, ◌≤◌, ◌<◌}
+use Prim.Native.Nat.{◌/◌}
 use native.Mathlib.Omega.{arith}
 use lib.ListN.{length}
 use Rattle.timed.specs.ScriptOf.{Scripted, accesses_to, script_of}
@@ -30,7 +30,7 @@ loop-i-preserved c = let l = c.loop-i in
       l.invariant.1,
       search rules,
       search rules,
-      access_turn _ l.i _ (record { state = l.state; memory = l.memory; out = l.out; digest = l.digest }) _ _ _ _ _ _ _ _ l.invariant.4 c.wide.ensures c.wide-in-loop-i.ensures c.wide-in-loop-i-2.ensures a.ensures.value a.ensures.memory_after a.ensures.out_after c.access_word.ensures.0 c.mixed-digest.ensures,
+      access_turn _ l.i _ (record { state = l.state; memory = l.memory; out = l.out; digest = l.digest }) _ _ _ _ _ _ _ _ l.invariant.4 refl refl refl a.ensures.value a.ensures.memory_after a.ensures.out_after c.access_word.ensures.0 c.mixed-digest.ensures,
       omega (arith, c.loop-i-test.true),
     )
 

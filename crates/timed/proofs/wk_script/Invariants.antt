@@ -1,9 +1,7 @@
-use mathlib.Core.Path.{◌≡◌, refl, ap}
-use Prim.Native.Nat.{◌+◌, ◌*◌, ◌-◌, ◌/◌, ◌≤◌, ◌<◌}
-use native.Mathlib.Omega.{arith}
+use mathlib.Core.Path.{◌≡◌}
+use Prim.Native.Nat.{◌*◌, ◌-◌, ◌/◌, ◌≤◌, ◌<◌}
 use lib.ListN.{length}
-use Rattle.timed.specs.ScriptOf.{Scripted, accesses_to, script_of}
-use Rattle.timed.specs.Laws.LoopsCode.{access_turn}
+use Rattle.timed.specs.ScriptOf.{Scripted, accesses_to}
 use Rattle.timed.proofs.wk_script.Given as goal
 
 abbrev pub invariant-loop-i : goal.invariant-loop-i
