@@ -2,7 +2,7 @@
 // after two steps, and played by an order of which some steps are refused.
 #![tactic(auto)]
 
-use input::{LONGEST_WORD, word_at, word_count};
+use input::{from_file, with_word, word_count};
 use options::ALL;
 use waits::MOST_WAITS;
 
@@ -16,49 +16,36 @@ fn play(rt: HostRuntime, bytes: &[u8]) {
     let mut out = transcript::space();
     let mut why = [0u8; MOST_WAITS];
     let told = transcript::tell(bytes, &mut out, &mut why);
-    let text = told.text;
-    let reasons = told.reasons;
-    put(rt, &out[..text]);
-    put(rt, &why[..reasons]);
+    put(rt, &out[..told.text]);
+    put(rt, &why[..told.reasons]);
 }
 
-// The same with --steps, and with --order if `ordered` is true.
-fn play_paused(rt: HostRuntime, bytes: &[u8], most: usize, ordered: bool, order: &[u8]) {
-    let none = [0u32; 1];
+// The same with --steps, and with --order if there is one.
+fn play_paused(rt: HostRuntime, bytes: &[u8], most: usize, order: Option<&[u8]>) {
     let mut out = pause::space();
     let mut why = [0u8; MOST_WAITS];
-    let told = pause::tell(bytes, most, &none[..0], ordered, order, &mut out, &mut why);
-    let text = told.text;
-    let reasons = told.reasons;
-    put(rt, &out[..text]);
-    put(rt, &why[..reasons]);
+    let told = pause::tell(bytes, most, &[], order, &mut out, &mut why);
+    put(rt, &out[..told.text]);
+    put(rt, &why[..told.reasons]);
 }
 
 // Writes a recording's name and then what the replay program writes for it.
 fn play_file(rt: HostRuntime, path: &[u8]) {
     let mut bytes = [0u8; 65537];
-    let file = input::from_file(rt, b"cases", path, &mut bytes);
-    if !file.read {
+    let Some(bytes) = from_file(rt, b"cases", path, &mut bytes) else {
         return;
-    }
-    let n = file.count;
+    };
     put(rt, path);
     put(rt, b"\n");
-    play(rt, &bytes[..n]);
+    play(rt, bytes);
     put(rt, b"--steps 2\n");
-    play_paused(rt, &bytes[..n], 2, false, b"");
+    play_paused(rt, bytes, 2, None);
     put(rt, b"--order\n");
-    play_paused(rt, &bytes[..n], ALL, true, b"1\n0\n7\n0\n1\n0\n");
-}
-
-fn play_argument(rt: HostRuntime, i: usize) {
-    let mut path = [0u8; LONGEST_WORD];
-    let length = word_at(rt, i, &mut path);
-    play_file(rt, &path[..length]);
+    play_paused(rt, bytes, ALL, Some(b"1\n0\n7\n0\n1\n0\n"));
 }
 
 fn main(rt: HostRuntime) {
     for i in 1..word_count(rt) {
-        play_argument(rt, i);
+        with_word(rt, i, |path| play_file(rt, path));
     }
 }

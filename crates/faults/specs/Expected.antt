@@ -1,7 +1,7 @@
 -- What the next word of a line has to be.
-use Rattle.std.specs.Prelude.{Bool, false, cond, ◌||◌, ℕ, eqb}
-use Rattle.lines.specs.Asked.{is_number}
-use Rattle.lines.specs.Fields.{read_field, write_field}
+use Rattle.std.specs.Prelude.{Bool, false, cond, ◌||◌}
+use Rattle.lines.specs.declared.field.Field.{Field}
+use Rattle.lines.specs.Field.{is_number, is_read, is_write}
 use Rattle.faults.specs.declared.expected.Expected.{Expected}
 use Rattle.faults.specs.declared.expected.Expected.TheVariants.{Tasks, Objects, Fields, Owner, Start, Task, Letter, ReadObject, WriteObject, ReadField, WriteField, Value, End}
 use Rattle.faults.specs.declared.expected.Form.{Form}
@@ -23,15 +23,15 @@ form_of WriteField = form.Number
 form_of Value = form.Number
 form_of End = form.Nothing
 
-unfoldable pub is_letter : ℕ → Bool
-is_letter f = eqb f read_field || eqb f write_field
+abbrev pub is_letter : Field → Bool
+is_letter f = is_read f || is_write f
 
-abbrev pub has_form : Form → ℕ → Bool
+abbrev pub has_form : Form → Field → Bool
 has_form form.Number f = is_number f
 has_form form.Letter f = is_letter f
 has_form form.Nothing f = false
 
-abbrev pub fits_as : Expected → ℕ → Bool
+abbrev pub fits_as : Expected → Field → Bool
 fits_as e f = has_form (form_of e) f
 
 -- what is expected after such a word; owners and starting values go on without end. After a letter other than W comes the object of a
@@ -51,5 +51,5 @@ behind_of named WriteField = Value
 behind_of named Value = End
 behind_of named End = End
 
-unfoldable pub next_of : Bool → Expected → ℕ → Expected
-next_of named e f = cond (eqb f write_field) WriteObject (behind_of named e)
+abbrev pub next_of : Bool → Expected → Field → Expected
+next_of named e f = cond (is_write f) WriteObject (behind_of named e)

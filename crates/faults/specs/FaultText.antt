@@ -1,6 +1,7 @@
 -- The message about a fault, after `line 7: expected `.
-use Rattle.std.specs.Prelude.{cond, List, [], ◌∷◌, ◌++◌, ℕ, eqb, length}
+use Rattle.std.specs.Prelude.{cond, List, [], ◌∷◌, ◌++◌, ℕ, eqb, length, codes}
 use Rattle.lines.specs.declared.rows.Sizes as sizes
+use Rattle.lines.specs.Rows.{names_field}
 use Rattle.lines.specs.Words.{words_of}
 use Rattle.text.specs.Decimal.{decimal_of, field_of}
 use Rattle.faults.specs.declared.expected.Expected.{Expected}
@@ -14,13 +15,13 @@ use Rattle.faults.specs.Stop.{Stop, stop_of}
 
 -- `, found `; the same followed by `the end of the line` or `the end of the text` and a newline
 abbrev pub found_word : List ℕ
-found_word = 44 ∷ 32 ∷ 102 ∷ 111 ∷ 117 ∷ 110 ∷ 100 ∷ 32 ∷ []
+found_word = codes ", found "
 
 abbrev pub found_line_end : List ℕ
-found_line_end = 44 ∷ 32 ∷ 102 ∷ 111 ∷ 117 ∷ 110 ∷ 100 ∷ 32 ∷ 116 ∷ 104 ∷ 101 ∷ 32 ∷ 101 ∷ 110 ∷ 100 ∷ 32 ∷ 111 ∷ 102 ∷ 32 ∷ 116 ∷ 104 ∷ 101 ∷ 32 ∷ 108 ∷ 105 ∷ 110 ∷ 101 ∷ 10 ∷ []
+found_line_end = codes ", found the end of the line\n"
 
 abbrev pub found_text_end : List ℕ
-found_text_end = 44 ∷ 32 ∷ 102 ∷ 111 ∷ 117 ∷ 110 ∷ 100 ∷ 32 ∷ 116 ∷ 104 ∷ 101 ∷ 32 ∷ 101 ∷ 110 ∷ 100 ∷ 32 ∷ 111 ∷ 102 ∷ 32 ∷ 116 ∷ 104 ∷ 101 ∷ 32 ∷ 116 ∷ 101 ∷ 120 ∷ 116 ∷ 10 ∷ []
+found_text_end = codes ", found the end of the text\n"
 
 -- this word was found where another was expected
 unfoldable pub wrong_text : Expected → List ℕ → List ℕ
@@ -28,10 +29,10 @@ wrong_text e w = name_of e ++ found_word ++ shown_of w ++ (10 ∷ [])
 
 -- ` owner` and ` starting value`
 abbrev pub owner_noun : List ℕ
-owner_noun = 32 ∷ 111 ∷ 119 ∷ 110 ∷ 101 ∷ 114 ∷ []
+owner_noun = codes " owner"
 
 abbrev pub start_noun : List ℕ
-start_noun = 32 ∷ 115 ∷ 116 ∷ 97 ∷ 114 ∷ 116 ∷ 105 ∷ 110 ∷ 103 ∷ 32 ∷ 118 ∷ 97 ∷ 108 ∷ 117 ∷ 101 ∷ []
+start_noun = codes " starting value"
 
 -- `s`, unless there is one
 unfoldable pub plural_of : ℕ → List ℕ
@@ -61,7 +62,7 @@ missing_text kind = missing_name kind ++ found_text_end
 
 -- for a line of a text that begins with T, N and F
 abbrev pub line_text : sizes.Sizes → Kind → List ℕ → List ℕ
-line_text z kind line = stop_text kind (count_of kind z) (stop_of z.named (first_of kind) 0 (words_of line))
+line_text z kind line = stop_text kind (count_of kind z) (stop_of (names_field z) (first_of kind) 0 (words_of line))
 
 unfoldable pub reading_text : sizes.Sizes → Reading → List ℕ
 reading_text z d = cond d.there (line_text z d.kind d.bytes) (missing_text d.kind)

@@ -2,6 +2,7 @@
 use Rattle.std.specs.Prelude.{ℕ}
 use Rattle.codec.specs.Cell.{cells_of}
 use Rattle.lines.specs.declared.rows.Sizes as sizes
+use Rattle.lines.specs.Rows.{fields_in}
 use Rattle.faults.specs.declared.expected.Expected.{Expected}
 use Rattle.faults.specs.declared.expected.Expected.TheVariants.{Tasks, Owner, Start, Task}
 use Rattle.faults.specs.declared.kind.Kind.{Kind}
@@ -25,5 +26,5 @@ kind_after Access = Access
 abbrev pub count_of : Kind → sizes.Sizes → ℕ
 count_of Sizes z = 0
 count_of Owners z = z.objects
-count_of Starts z = cells_of z.fields z.objects
+count_of Starts z = cells_of (fields_in z) z.objects
 count_of Access z = 0

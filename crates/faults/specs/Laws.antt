@@ -1,7 +1,6 @@
 -- The laws of this crate's definitions. All of them are proved; a reader does not have to trust anything here.
 pub mod FaultTextCode
 pub mod KindCode
-pub mod NameCode
 pub mod ReadingCode
 pub mod ShownCode
 pub mod StopCode

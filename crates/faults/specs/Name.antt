@@ -1,44 +1,43 @@
 -- The names of what was expected: a word or a missing line.
-use Rattle.std.specs.Prelude.{List, [], ◌∷◌, ℕ}
+use Rattle.std.specs.Prelude.{List, ℕ, codes}
 use Rattle.faults.specs.declared.expected.Expected.{Expected}
 use Rattle.faults.specs.declared.expected.Expected.TheVariants.{Tasks, Objects, Fields, Owner, Start, Task, Letter, ReadObject, WriteObject, ReadField, WriteField, Value, End}
 use Rattle.faults.specs.declared.kind.Kind.{Kind}
 use Rattle.faults.specs.declared.kind.Kind.TheVariants.{Sizes, Owners, Starts, Access}
 
--- `the number of tasks`, `the number of objects`, `the number of fields or the end of the line`, `an owner`, `a starting value`, `a task
--- number`, `R or W`, `an object number`, `a field number`, `a value`, `the end of the line`
+-- a word
 abbrev pub tasks_word : List ℕ
-tasks_word = 116 ∷ 104 ∷ 101 ∷ 32 ∷ 110 ∷ 117 ∷ 109 ∷ 98 ∷ 101 ∷ 114 ∷ 32 ∷ 111 ∷ 102 ∷ 32 ∷ 116 ∷ 97 ∷ 115 ∷ 107 ∷ 115 ∷ []
+tasks_word = codes "the number of tasks"
 
 abbrev pub objects_word : List ℕ
-objects_word = 116 ∷ 104 ∷ 101 ∷ 32 ∷ 110 ∷ 117 ∷ 109 ∷ 98 ∷ 101 ∷ 114 ∷ 32 ∷ 111 ∷ 102 ∷ 32 ∷ 111 ∷ 98 ∷ 106 ∷ 101 ∷ 99 ∷ 116 ∷ 115 ∷ []
+objects_word = codes "the number of objects"
 
 abbrev pub fields_word : List ℕ
-fields_word = 116 ∷ 104 ∷ 101 ∷ 32 ∷ 110 ∷ 117 ∷ 109 ∷ 98 ∷ 101 ∷ 114 ∷ 32 ∷ 111 ∷ 102 ∷ 32 ∷ 102 ∷ 105 ∷ 101 ∷ 108 ∷ 100 ∷ 115 ∷ 32 ∷ 111 ∷ 114 ∷ 32 ∷ 116 ∷ 104 ∷ 101 ∷ 32 ∷ 101 ∷ 110 ∷ 100 ∷ 32 ∷ 111 ∷ 102 ∷ 32 ∷ 116 ∷ 104 ∷ 101 ∷ 32 ∷ 108 ∷ 105 ∷ 110 ∷ 101 ∷ []
+fields_word = codes "the number of fields or the end of the line"
 
 abbrev pub owner_word : List ℕ
-owner_word = 97 ∷ 110 ∷ 32 ∷ 111 ∷ 119 ∷ 110 ∷ 101 ∷ 114 ∷ []
+owner_word = codes "an owner"
 
 abbrev pub start_word : List ℕ
-start_word = 97 ∷ 32 ∷ 115 ∷ 116 ∷ 97 ∷ 114 ∷ 116 ∷ 105 ∷ 110 ∷ 103 ∷ 32 ∷ 118 ∷ 97 ∷ 108 ∷ 117 ∷ 101 ∷ []
+start_word = codes "a starting value"
 
 abbrev pub task_word : List ℕ
-task_word = 97 ∷ 32 ∷ 116 ∷ 97 ∷ 115 ∷ 107 ∷ 32 ∷ 110 ∷ 117 ∷ 109 ∷ 98 ∷ 101 ∷ 114 ∷ []
+task_word = codes "a task number"
 
 abbrev pub letter_word : List ℕ
-letter_word = 82 ∷ 32 ∷ 111 ∷ 114 ∷ 32 ∷ 87 ∷ []
+letter_word = codes "R or W"
 
 abbrev pub object_word : List ℕ
-object_word = 97 ∷ 110 ∷ 32 ∷ 111 ∷ 98 ∷ 106 ∷ 101 ∷ 99 ∷ 116 ∷ 32 ∷ 110 ∷ 117 ∷ 109 ∷ 98 ∷ 101 ∷ 114 ∷ []
+object_word = codes "an object number"
 
 abbrev pub field_word : List ℕ
-field_word = 97 ∷ 32 ∷ 102 ∷ 105 ∷ 101 ∷ 108 ∷ 100 ∷ 32 ∷ 110 ∷ 117 ∷ 109 ∷ 98 ∷ 101 ∷ 114 ∷ []
+field_word = codes "a field number"
 
 abbrev pub value_word : List ℕ
-value_word = 97 ∷ 32 ∷ 118 ∷ 97 ∷ 108 ∷ 117 ∷ 101 ∷ []
+value_word = codes "a value"
 
 abbrev pub line_end : List ℕ
-line_end = 116 ∷ 104 ∷ 101 ∷ 32 ∷ 101 ∷ 110 ∷ 100 ∷ 32 ∷ 111 ∷ 102 ∷ 32 ∷ 116 ∷ 104 ∷ 101 ∷ 32 ∷ 108 ∷ 105 ∷ 110 ∷ 101 ∷ []
+line_end = codes "the end of the line"
 
 abbrev pub name_of : Expected → List ℕ
 name_of Tasks = tasks_word
@@ -55,12 +54,12 @@ name_of WriteField = field_word
 name_of Value = value_word
 name_of End = line_end
 
--- `the owners`, `the starting values`
+-- a missing line's own names
 abbrev pub owners_word : List ℕ
-owners_word = 116 ∷ 104 ∷ 101 ∷ 32 ∷ 111 ∷ 119 ∷ 110 ∷ 101 ∷ 114 ∷ 115 ∷ []
+owners_word = codes "the owners"
 
 abbrev pub starts_word : List ℕ
-starts_word = 116 ∷ 104 ∷ 101 ∷ 32 ∷ 115 ∷ 116 ∷ 97 ∷ 114 ∷ 116 ∷ 105 ∷ 110 ∷ 103 ∷ 32 ∷ 118 ∷ 97 ∷ 108 ∷ 117 ∷ 101 ∷ 115 ∷ []
+starts_word = codes "the starting values"
 
 -- a missing line
 abbrev pub missing_name : Kind → List ℕ

@@ -1,8 +1,8 @@
 -- A word as a message shows it: at most 20 bytes, then `...` if it is longer; a byte that is not a visible character is shown as ?.
-use Rattle.std.specs.Prelude.{cond, ◌&&◌, List, [], ◌∷◌, ◌++◌, map, ℕ, leb, length, take}
+use Rattle.std.specs.Prelude.{cond, ◌&&◌, List, ◌++◌, map, ℕ, leb, length, take, codes}
 
 abbrev pub dots_word : List ℕ
-dots_word = 46 ∷ 46 ∷ 46 ∷ []
+dots_word = codes "..."
 
 unfoldable pub shown_byte : ℕ → ℕ
 shown_byte b = cond (leb 33 b && leb b 126) b 63

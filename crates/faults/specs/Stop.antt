@@ -1,5 +1,6 @@
 -- Where the reading of a line stops: at the first word that is not as expected, or at the line's end.
-use Rattle.std.specs.Prelude.{◌≡◌, Bool, cond, List, [], ◌∷◌, ℕ, ◌+◌, ◌-◌, ◌≤◌, length, take, drop}
+use Rattle.std.specs.Prelude.{◌≡◌, Bool, cond, List, [], ◌∷◌, ℕ, ◌+◌, ◌<◌, length, Option, Some, None}
+use denote.Ref.{Bor}
 use Rattle.lines.specs.Fields.{field_of}
 use Rattle.faults.specs.declared.expected.Expected.{Expected}
 use Rattle.faults.specs.declared.stop.Stopped.{Stopped}
@@ -16,10 +17,13 @@ unfoldable pub stop_of : Bool → Expected → ℕ → List (List ℕ) → Stop
 stop_of named e k [] = record { expected = e; words = k; word = [] }
 stop_of named e k (w ∷ ws) = cond (fits_as e (field_of w)) (stop_of named (next_of named e (field_of w)) (k + 1) ws) (record { expected = e; words = k; word = w })
 
+-- the word found; none at the line's end
+abbrev pub Finds : Stop → Option (Bor (List ℕ)) → Type 0
+Finds s (Some word) = (word.now ≡ s.word) × (0 < length s.word)
+Finds s None = s.word ≡ []
+
 -- where the reading of a line stopped
-pub record Stops (s : Stop) (line : List ℕ) (r : Stopped) : Type 0 where
+pub record Stops (s : Stop) (r : Stopped) : Type 0 where
   pub expected : r.expected ≡ s.expected
   pub words : r.words ≡ s.words
-  pub word : take (r.to - r.from) (drop r.from line) ≡ s.word
-  pub ordered : r.from ≤ r.to
-  pub within : r.to ≤ length line
+  pub found : Finds s r.found

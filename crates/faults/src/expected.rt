@@ -2,7 +2,7 @@
 ghost use Rattle.std.specs.Prelude.{cond, ◌≡◌};
 ghost use Rattle.faults.specs.Expected.{form_of, is_letter, has_form, behind_of, next_of};
 
-use lines::fields::{NONE, READ, WRITE};
+use lines::field::Field;
 
 // A read's line ends with its object, or with its field; a write's has a value after it.
 #[derive(Clone, Copy)]
@@ -50,22 +50,18 @@ fn form_of(e: Expected) -> Form
     }
 }
 
-fn is_letter(field: u64) -> bool
+fn is_letter(field: Field) -> bool
     ensures { result ≡ is_letter field }
 {
-    if field == READ {
-        return true;
-    }
-    field == WRITE
+    matches!(field, Field::Read | Field::Write)
 }
 
 // Whether a word's field is as expected.
-pub(crate) fn fits(e: Expected, field: u64) -> bool
+pub(crate) fn fits(e: Expected, field: Field) -> bool
     ensures { result ≡ has_form (form_of e) field }
 {
-    let form = form_of(e);
-    match form {
-        Form::Number => field < NONE,
+    match form_of(e) {
+        Form::Number => field.number().is_some(),
         Form::Letter => is_letter(field),
         Form::Nothing => false,
     }
@@ -100,11 +96,11 @@ fn behind(e: Expected, named: bool) -> Expected
 }
 
 // What is expected next, given a word's field.
-pub(crate) fn next(e: Expected, field: u64, named: bool) -> Expected
+pub(crate) fn next(e: Expected, field: Field, named: bool) -> Expected
     ensures { result ≡ next_of named e field }
 {
-    if field == WRITE {
-        return Expected::WriteObject;
+    match field {
+        Field::Write => Expected::WriteObject,
+        _ => behind(e, named),
     }
-    behind(e, named)
 }

@@ -1,18 +1,19 @@
 // The message about a fault, after `line 7: expected `.
 ghost use Rattle.std.specs.Prelude.{◌++◌, ◌+◌, ◌≤◌, ◌<◌, length};
-ghost use Rattle.lines.specs.Number.{none};
+ghost use Rattle.lines.specs.Number.{number_limit};
+ghost use Rattle.lines.specs.Rows.{fields_in};
 ghost use Rattle.text.specs.Appended.{Appended};
 ghost use Rattle.faults.specs.Name.{name_of};
 ghost use Rattle.faults.specs.FaultText.{found_line_end, wrong_text, plural_of, noun_text, count_text, end_text, line_text, missing_text, fault_text};
 
 use crate::expected::Expected;
 use crate::kind::{Kind, count_of, first};
-use crate::name::{missing_name, name_of, put_name};
+use crate::name::{missing_name, name_of};
 use crate::reading::{place_of, text_sizes};
 use crate::shown::put_shown;
 use crate::stop::stop_in;
 use lines::rows::Sizes;
-use lines::words::bare_end;
+use lines::words::bare;
 use text::{put_byte, put_bytes, put_field, put_number};
 
 // This word was found where another was expected.
@@ -21,7 +22,7 @@ fn put_wrong(out: &mut [u8], at: usize, e: Expected, word: &[u8]) -> usize
     ensures appended { Appended (wrong_text e word.now) out.old at out.new result }
     ensures upper_bound { result ≤ at + 75 }
 {
-    let name = put_name(out, at, name_of(e));
+    let name = put_bytes(out, at, name_of(e));
     let found = put_bytes(out, name, b", found ");
     let shown = put_shown(out, found, word);
     put_byte(out, shown, b'\n')
@@ -66,7 +67,7 @@ fn put_line_end(out: &mut [u8], at: usize, e: Expected) -> usize
     ensures appended { Appended (name_of e ++ found_line_end) out.old at out.new result }
     ensures upper_bound { result ≤ at + 71 }
 {
-    let name = put_name(out, at, name_of(e));
+    let name = put_bytes(out, at, name_of(e));
     put_bytes(out, name, b", found the end of the line\n")
 }
 
@@ -86,21 +87,17 @@ fn put_end(out: &mut [u8], at: usize, kind: Kind, n: usize, e: Expected, k: usiz
 
 // What is wrong with a line of a text that begins with T, N and F.
 fn put_line(out: &mut [u8], at: usize, kind: Kind, z: Sizes, line: &[u8]) -> usize
-    requires at_in_bounds { (at + 75 ≤ length out.old) × (length line.now ≤ 1048576) }
-    requires objects_lt_none { (z.objects < none) × (z.fields < none) }
+    requires at_in_bounds { at + 75 ≤ length out.old }
+    requires objects_lt_limit { (z.objects < number_limit) × (fields_in z < number_limit) }
     ensures appended { Appended (line_text z kind line.now) out.old at out.new result }
     ensures upper_bound { result ≤ at + 75 }
 {
-    let end = bare_end(line);
-    let bare = &line[..end];
-    let s = stop_in(bare, first(kind), z.named);
+    let s = stop_in(bare(line), first(kind), z.fields.is_some());
     let e = s.expected;
-    let from = s.from;
-    let to = s.to;
-    if from == to {
-        return put_end(out, at, kind, count_of(kind, z), e, s.words);
+    match s.found {
+        Some(word) => put_wrong(out, at, e, word),
+        None => put_end(out, at, kind, count_of(kind, z), e, s.words),
     }
-    put_wrong(out, at, e, &bare[from..to])
 }
 
 // The text ended where such a line was expected.
@@ -109,7 +106,7 @@ fn put_missing(out: &mut [u8], at: usize, kind: Kind) -> usize
     ensures appended { Appended (missing_text kind) out.old at out.new result }
     ensures upper_bound { result ≤ at + 71 }
 {
-    let name = put_name(out, at, missing_name(kind));
+    let name = put_bytes(out, at, missing_name(kind));
     put_bytes(out, name, b", found the end of the text\n")
 }
 
@@ -120,11 +117,8 @@ pub fn put_fault(out: &mut [u8], at: usize, text: &[u8], line: usize) -> usize
     ensures upper_bound { result ≤ at + 75 }
 {
     let p = place_of(text, line);
-    let kind = p.kind;
-    let from = p.from;
-    let to = p.to;
-    if !p.there {
-        return put_missing(out, at, kind);
+    match p.line {
+        Some(line) => put_line(out, at, p.kind, text_sizes(text), line),
+        None => put_missing(out, at, p.kind),
     }
-    put_line(out, at, kind, text_sizes(text), &text[from..to])
 }

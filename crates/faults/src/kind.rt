@@ -1,6 +1,7 @@
 // What a line of the text is.
 ghost use Rattle.std.specs.Prelude.{◌≡◌, ◌<◌};
-ghost use Rattle.lines.specs.Number.{none};
+ghost use Rattle.lines.specs.Number.{number_limit};
+ghost use Rattle.lines.specs.Rows.{fields_in};
 ghost use Rattle.faults.specs.Kind.{first_of, kind_after, count_of};
 
 use crate::expected::Expected;
@@ -42,13 +43,13 @@ pub(crate) fn kind_after(kind: Kind) -> Kind
 
 // How many numbers a line of owners or starting values has.
 pub(crate) fn count_of(kind: Kind, z: Sizes) -> usize
-    requires { (z.objects < none) × (z.fields < none) }
+    requires { (z.objects < number_limit) × (fields_in z < number_limit) }
     ensures { result ≡ count_of kind z }
 {
     match kind {
         Kind::Sizes => 0,
         Kind::Owners => z.objects,
-        Kind::Starts => z.objects * width_of(z.fields),
+        Kind::Starts => z.objects * width_of(z.fields.unwrap_or(0)),
         Kind::Access => 0,
     }
 }

@@ -4,67 +4,51 @@ ghost use Rattle.faults.specs.Reading.{reading_of, Stands, text_sizes};
 
 use crate::kind::{Kind, kind_after};
 use lines::next_line;
-use lines::rows::{Sizes, no_sizes, sizes_of};
+use lines::rows::{Sizes, sizes_of};
 
-// What the line is, whether the text has it, and where it is.
+// What the line is, and its bytes if the text has it.
 #[derive(Clone, Copy)]
-pub(crate) struct Place {
+pub(crate) struct Place<'a> {
     pub(crate) kind: Kind,
-    pub(crate) there: bool,
-    pub(crate) from: usize,
-    pub(crate) to: usize,
+    pub(crate) line: Option<&'a [u8]>,
 }
 
 // The line with a given number.
-pub(crate) fn place_of(text: &[u8], line: usize) -> Place
+pub(crate) fn place_of(text: &[u8], line: usize) -> Place<'_>
     requires { length text.now ≤ 1048576 }
-    ensures { Stands (reading_of text.now line) text.now result }
+    ensures { Stands (reading_of text.now line) result }
 {
     let mut kind = Kind::Sizes;
-    let mut at = 0;
+    let mut rest = text;
     let mut number = 1;
-    while at < text.len() {
-        let l = next_line(text, at, number);
-        let from = l.from;
-        let to = l.to;
-        if !l.there {
+    while let Ok(next) = next_line(rest, number) {
+        if next.number == line {
             return Place {
                 kind,
-                there: false,
-                from: to,
-                to,
-            };
-        }
-        if l.number == line {
-            return Place {
-                kind,
-                there: true,
-                from,
-                to,
+                line: Some(next.line),
             };
         }
         kind = kind_after(kind);
-        at = to + 1;
-        number = l.number + 1;
+        rest = next.rest;
+        number = next.number + 1;
     }
-    Place {
-        kind,
-        there: false,
-        from: 0,
-        to: 0,
-    }
+    Place { kind, line: None }
 }
+
+// The sizes of a text whose first line gives none.
+const NO_SIZES: Sizes = Sizes {
+    tasks: 0,
+    objects: 0,
+    fields: None,
+};
 
 // T, N and F as the first line gives them.
 pub(crate) fn text_sizes(text: &[u8]) -> Sizes
     requires { length text.now ≤ 1048576 }
     ensures { result ≡ text_sizes text.now }
 {
-    let l = next_line(text, 0, 1);
-    if !l.there {
-        return no_sizes();
+    match next_line(text, 1) {
+        Ok(next) => sizes_of(next.line).unwrap_or(NO_SIZES),
+        Err(_) => NO_SIZES,
     }
-    let from = l.from;
-    let to = l.to;
-    sizes_of(&text[from..to])
 }

@@ -9,21 +9,15 @@ use text::put_bytes;
 fn shown_byte(byte: u8) -> u8
     ensures { result ≡ shown_byte byte }
 {
-    if byte < 33 {
-        return b'?';
-    }
-    if 126 < byte {
-        return b'?';
-    }
-    byte
+    if byte.is_ascii_graphic() { byte } else { b'?' }
 }
 
 fn put_shown_bytes(out: &mut [u8], at: usize, word: &[u8]) -> usize
     requires { at + length word.now ≤ length out.old }
     ensures { Appended (map shown_byte word.now) out.old at out.new result }
 {
-    for i in 0..word.len() {
-        out[at + i] = shown_byte(word[i]);
+    for (i, byte) in word.iter().enumerate() {
+        out[at + i] = shown_byte(*byte);
     }
     at + word.len()
 }

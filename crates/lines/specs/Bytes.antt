@@ -1,5 +1,5 @@
 -- Where a byte first stands.
-use Rattle.std.specs.Prelude.{Bool, true, false, List, [], ◌∷◌, ℕ, suc, eqb, take, drop}
+use Rattle.std.specs.Prelude.{Bool, true, false, List, [], ◌∷◌, ℕ, suc, eqb}
 
 -- an index, past an element that was no match
 unfoldable pub index_after : Bool → ℕ → ℕ
@@ -10,7 +10,3 @@ index_after false k = suc k
 unfoldable pub index_of : ℕ → List ℕ → ℕ
 index_of b [] = 0
 index_of b (x ∷ l) = index_after (eqb x b) (index_of b l)
-
--- the elements from an index up to another
-unfoldable pub slice : ℕ → ℕ → List ℕ → List ℕ
-slice from to l = drop from (take to l)

@@ -3,7 +3,6 @@ pub mod AskedCode
 pub mod Bytes
 pub mod Fields
 pub mod FieldsCode
-pub mod Found
 pub mod Lines
 pub mod Number
 pub mod RowCode

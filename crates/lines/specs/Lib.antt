@@ -1,6 +1,7 @@
 pub mod AccessLines
 pub mod Asked
 pub mod Bytes
+pub mod Field
 pub mod Fields
 pub mod Lines
 pub mod Number

@@ -1,7 +1,7 @@
 -- The lines of a text, each ended by a newline, which may be missing at the end of the last. Lines without a word are skipped, but
 -- counted.
-use Rattle.std.specs.Prelude.{◌≡◌, Bool, true, false, cond, List, [], ◌∷◌, ℕ, ◌+◌, ◌-◌, ◌≤◌, eqb, length, take, drop}
-use Rattle.lines.specs.declared.Found.{Found}
+use Rattle.std.specs.Prelude.{◌≡◌, Bool, cond, List, [], ◌∷◌, ℕ, ◌+◌, ◌<◌, ◌≤◌, eqb, length, Result, Ok, Err}
+use Rattle.lines.specs.declared.Next.{Next}
 use Rattle.lines.specs.Words.{front, words_of}
 
 unfoldable pub lines_of : List ℕ → List (List ℕ)
@@ -20,21 +20,23 @@ unfoldable pub numbered : ℕ → List (List ℕ) → List Line
 numbered n [] = []
 numbered n (l ∷ ls) = cond (is_passed l) (numbered (n + 1) ls) (record { number = n; bytes = l } ∷ numbered (n + 1) ls)
 
--- the lines from an offset on, at which line n begins
-abbrev pub lines_from : ℕ → ℕ → List ℕ → List Line
-lines_from n at text = numbered n (lines_of (drop at text))
+-- the lines of a text that are not skipped, where its first line has number n
+abbrev pub lines_from : ℕ → List ℕ → List Line
+lines_from n text = numbered n (lines_of text)
 
 -- the number of the line after the last
-abbrev pub line_behind : ℕ → ℕ → List ℕ → ℕ
-line_behind n at text = n + length (lines_of (drop at text))
+abbrev pub line_behind : ℕ → List ℕ → ℕ
+line_behind n text = n + length (lines_of text)
 
--- what the search for the next line answers
-pub record NextLine (text : List ℕ) (at n : ℕ) (f : Found) : Type 0 where
-  pub found : f.there ≡ true → lines_from n at text ≡ record { number = f.number; bytes = take (f.to - f.from) (drop f.from text) } ∷ lines_from (f.number + 1) (f.to + 1) text
-  pub kept : f.there ≡ true → line_behind (f.number + 1) (f.to + 1) text ≡ line_behind n at text
-  pub none : f.there ≡ false → lines_from n at text ≡ []
-  pub last : f.there ≡ false → f.number ≡ line_behind n at text
-  pub ordered : f.from ≤ f.to
-  pub within : f.to ≤ length text
-  pub on : at ≤ length text → at ≤ f.to
-  pub counted : f.there ≡ true → f.number ≤ f.to + 1
+-- the first line that is not skipped, and the text that follows it
+pub record FirstLine (text : List ℕ) (n : ℕ) (f : Next) : Type 0 where
+  pub found : lines_from n text ≡ record { number = f.number; bytes = f.line.now } ∷ lines_from (f.number + 1) f.rest.now
+  pub kept : line_behind (f.number + 1) f.rest.now ≡ line_behind n text
+  pub within : length f.line.now + length f.rest.now ≤ length text
+  pub shorter : length f.rest.now < length text
+  pub counted : f.number + length f.rest.now < n + length text
+
+-- the next line, or the number of the line after the last
+abbrev pub NextLine : List ℕ → ℕ → Result Next ℕ → Type 0
+NextLine text n (Ok f) = FirstLine text n f
+NextLine text n (Err k) = (lines_from n text ≡ []) × (k ≡ line_behind n text)

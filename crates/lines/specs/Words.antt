@@ -1,5 +1,6 @@
 -- The words of a line: the runs of bytes that are not blanks. A # begins a comment, which goes to the line's end.
-use Rattle.std.specs.Prelude.{◌≡◌, Bool, cond, ◌||◌, List, [], ◌∷◌, ℕ, ◌-◌, ◌<◌, ◌≤◌, eqb, length, take, drop}
+use Rattle.std.specs.Prelude.{◌≡◌, Bool, cond, ◌||◌, List, [], ◌∷◌, ℕ, ◌+◌, ◌<◌, ◌≤◌, eqb, length, take, Option, Some, None}
+use Rattle.lines.specs.declared.words.Word.{Word}
 use Rattle.lines.specs.Bytes.{index_of}
 
 -- space, tab and carriage return
@@ -32,10 +33,13 @@ bare_of line = take (index_of 35 line) line
 abbrev pub words_of : List ℕ → List (List ℕ)
 words_of line = words_in (bare_of line)
 
--- the next word from an index on: where it begins and ends; the two are equal if there is none
-pub record NextWord (l : List ℕ) (at from to : ℕ) : Type 0 where
-  pub found : from < to → words_in (drop at l) ≡ take (to - from) (drop from l) ∷ words_in (drop to l)
-  pub none : from ≡ to → words_in (drop at l) ≡ []
-  pub on : at ≤ from
-  pub ordered : from ≤ to
-  pub within : to ≤ length l
+-- a word at the front of a line, behind blanks, and what follows it
+pub record FirstWord (line : List ℕ) (w : Word) : Type 0 where
+  pub found : words_in line ≡ w.bytes.now ∷ words_in w.rest.now
+  pub filled : 0 < length w.bytes.now
+  pub within : length w.bytes.now + length w.rest.now ≤ length line
+
+-- the next word of a line, if it has one
+abbrev pub NextWord : List ℕ → Option Word → Type 0
+NextWord line (Some w) = FirstWord line w
+NextWord line None = words_in line ≡ []

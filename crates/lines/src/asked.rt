@@ -1,102 +1,73 @@
 // The access that a line of the text asks for.
-ghost use Rattle.std.specs.Prelude.{◌≡◌, ◌≤◌, length};
-ghost use Rattle.lines.specs.Asked.{malformed_line, asked_by, plain_of, fielded_of, asked_of};
+ghost use Rattle.std.specs.Prelude.{◌≡◌};
+ghost use Rattle.lines.specs.Asked.{read_by, write_by, plain_of, fielded_of, asked_of};
 ghost use Rattle.lines.specs.Fields.{fields_of};
 
-use crate::fields::{NONE, READ, WRITE, fields};
+use crate::field::Field;
+use crate::fields::fields;
 
-// An access as a line asks for it; `good` is false if the line is malformed. The field is 0 if lines name none.
+// An access as a line asks for it. The field is 0 if lines name none; a read has no value.
 #[derive(Clone, Copy)]
 pub struct Asked {
-    pub good: bool,
     pub task: usize,
     pub object: usize,
     pub field: usize,
-    pub sort: u32,
-    pub value: u32,
+    pub value: Option<u32>,
 }
 
-fn malformed() -> Asked
-    ensures { result ≡ malformed_line }
-{
-    Asked {
-        good: false,
-        task: 0,
-        object: 0,
-        field: 0,
-        sort: 0,
-        value: 0,
-    }
-}
-
-// An access, given whether its letter is right; the numbers must be numbers.
-fn asked_by(right: bool, task: u64, object: u64, field: u64, value: u64, sort: u32) -> Asked
-    ensures { result ≡ asked_by right task object field value sort }
+// A read, given whether its letter is right; the numbers must be numbers.
+fn read(right: bool, task: Field, object: Field, field: Field) -> Option<Asked>
+    ensures { result ≡ read_by right task object field }
 {
     if !right {
-        return malformed();
+        return None;
     }
-    if NONE <= task {
-        return malformed();
-    }
-    if NONE <= object {
-        return malformed();
-    }
-    if NONE <= field {
-        return malformed();
-    }
-    if NONE <= value {
-        return malformed();
-    }
-    Asked {
-        good: true,
-        task: task as usize,
-        object: object as usize,
-        field: field as usize,
-        sort,
-        value: value as u32,
-    }
+    Some(Asked {
+        task: task.number()? as usize,
+        object: object.number()? as usize,
+        field: field.number()? as usize,
+        value: None,
+    })
+}
+
+// A write, likewise.
+fn write(right: bool, task: Field, object: Field, field: Field, value: Field) -> Option<Asked>
+    ensures { result ≡ write_by right task object field value }
+{
+    let place = read(right, task, object, field)?;
+    Some(Asked {
+        value: Some(value.number()?),
+        ..place
+    })
 }
 
 // No field is named: `task R object` or `task W object value`.
-fn plain(line: &[u8]) -> Asked
-    requires { length line.now ≤ 1048576 }
+fn plain(line: &[u8]) -> Option<Asked>
     ensures { result ≡ plain_of (fields_of line.now) }
 {
-    let mut row = [0u64; 4];
-    let n = fields(line, &mut row);
-    if n == 3 {
-        return asked_by(row[1] == READ, row[0], row[2], 0, 0, 0);
+    let mut row = [Field::Other; 4];
+    match fields(line, &mut row) {
+        3 => read(row[1].is_read(), row[0], row[2], Field::Number(0)),
+        4 => write(row[1].is_write(), row[0], row[2], Field::Number(0), row[3]),
+        _ => None,
     }
-    if n == 4 {
-        return asked_by(row[1] == WRITE, row[0], row[2], 0, row[3], 1);
-    }
-    malformed()
 }
 
 // A field is named: `task R object field` or `task W object field value`.
-fn fielded(line: &[u8]) -> Asked
-    requires { length line.now ≤ 1048576 }
+fn fielded(line: &[u8]) -> Option<Asked>
     ensures { result ≡ fielded_of (fields_of line.now) }
 {
-    let mut row = [0u64; 5];
-    let n = fields(line, &mut row);
-    if n == 4 {
-        return asked_by(row[1] == READ, row[0], row[2], row[3], 0, 0);
+    let mut row = [Field::Other; 5];
+    match fields(line, &mut row) {
+        4 => read(row[1].is_read(), row[0], row[2], row[3]),
+        5 => write(row[1].is_write(), row[0], row[2], row[3], row[4]),
+        _ => None,
     }
-    if n == 5 {
-        return asked_by(row[1] == WRITE, row[0], row[2], row[3], row[4], 1);
-    }
-    malformed()
 }
 
-// The access that a line asks for, given whether lines name a field.
-pub fn asked_of(line: &[u8], named: bool) -> Asked
-    requires { length line.now ≤ 1048576 }
+// The access that a line asks for, given whether lines name a field; none if the line is malformed.
+pub fn asked_of(line: &[u8], named: bool) -> Option<Asked>
     ensures { result ≡ asked_of named (fields_of line.now) }
 {
-    if named {
-        return fielded(line);
-    }
-    plain(line)
+    if named { fielded(line) } else { plain(line) }
 }

@@ -1,68 +1,53 @@
 // The fields of a line: each word as a number, R or W.
 ghost use Rattle.std.specs.Prelude.{map, ◌≡◌, ◌≤◌, length, set};
-ghost use Rattle.codec.specs.Store.{store};
+ghost use Rattle.std.proofs.lemmas.List.Edits.{sets};
 ghost use Rattle.lines.specs.Number.{digit_on, number_of};
 ghost use Rattle.lines.specs.Fields.{field_of, fields_of};
 ghost use Rattle.lines.specs.Words.{words_in};
 
-use crate::words::{bare_end, next_word};
+use crate::field::Field;
+use crate::words::{bare, next_word};
 
-// The fields of words that are not numbers. Every number is smaller.
-pub const NONE: u64 = 4294967296;
-
-pub const READ: u64 = 4294967297;
-
-pub const WRITE: u64 = 4294967298;
-
-// A number with one more digit.
-fn digit_on(value: u64, byte: u8) -> u64
-    requires { value ≤ 4294967296 }
-    ensures value { result ≡ digit_on value byte }
-    ensures upper_bound { result ≤ 4294967296 }
+// A number with one more digit, unless the byte is none or the number gets too large.
+fn digit_on(value: u32, byte: u8) -> Option<u32>
+    ensures { result ≡ digit_on value byte }
 {
-    if byte < b'0' {
-        return NONE;
+    if !byte.is_ascii_digit() {
+        return None;
     }
-    if b'9' < byte {
-        return NONE;
-    }
-    let more = 10 * value + ((byte - b'0') as u64);
-    if NONE < more { NONE } else { more }
+    value.checked_mul(10)?.checked_add(u32::from(byte - b'0'))
 }
 
 // A word as a number.
-fn number(word: &[u8]) -> u64
+// Kept: `str::parse` takes a + before the digits, which is no number here.
+fn number(word: &[u8]) -> Option<u32>
     ensures { result ≡ number_of word.now }
 {
-    if word.len() == 0 {
-        return NONE;
+    if word.is_empty() {
+        return None;
     }
     let mut value = 0;
-    for i in 0..word.len() {
-        value = digit_on(value, word[i]);
+    for byte in word {
+        value = digit_on(value, *byte)?;
     }
-    value
+    Some(value)
 }
 
 // A word: a number, R or W.
-pub fn field(word: &[u8]) -> u64
+pub fn field(word: &[u8]) -> Field
     ensures { result ≡ field_of word.now }
 {
-    if word.len() != 1 {
-        return number(word);
+    if word == b"R".as_slice() {
+        return Field::Read;
     }
-    let byte = word[0];
-    if byte == b'R' {
-        return READ;
+    if word == b"W".as_slice() {
+        return Field::Write;
     }
-    if byte == b'W' {
-        return WRITE;
-    }
-    number(word)
+    number(word).map_or(Field::Other, Field::Number)
 }
 
 // Puts a field at an index, if there is room.
-fn put_field(out: &mut [u64], at: usize, value: u64)
+fn put_field(out: &mut [Field], at: usize, value: Field)
     ensures { out.new ≡ set out.old at value }
 {
     if at < out.len() {
@@ -71,33 +56,24 @@ fn put_field(out: &mut [u64], at: usize, value: u64)
 }
 
 // The fields of a line without its comment.
-fn fields_in(line: &[u8], out: &mut [u64]) -> usize
-    requires { length line.now ≤ 1048576 }
+fn fields_in(line: &[u8], out: &mut [Field]) -> usize
     ensures value { result ≡ length (map field_of (words_in line.now)) }
-    ensures out_after { out.new ≡ store out.old 0 (map field_of (words_in line.now)) }
+    ensures out_after { out.new ≡ sets out.old 0 (map field_of (words_in line.now)) }
 {
     let mut count = 0;
-    let mut at = 0;
-    while at < line.len() {
-        let w = next_word(line, at);
-        let from = w.from;
-        let to = w.to;
-        if from == to {
-            return count;
-        }
-        put_field(out, count, field(&line[from..to]));
+    let mut rest = line;
+    while let Some(word) = next_word(rest) {
+        put_field(out, count, field(word.bytes));
         count += 1;
-        at = to;
+        rest = word.rest;
     }
     count
 }
 
 // The fields of a line, as far as there is room for them. Returns how many the line has.
-pub fn fields(line: &[u8], out: &mut [u64]) -> usize
-    requires { length line.now ≤ 1048576 }
+pub fn fields(line: &[u8], out: &mut [Field]) -> usize
     ensures value { result ≡ length (fields_of line.now) }
-    ensures out_after { out.new ≡ store out.old 0 (fields_of line.now) }
+    ensures out_after { out.new ≡ sets out.old 0 (fields_of line.now) }
 {
-    let end = bare_end(line);
-    fields_in(&line[..end], out)
+    fields_in(bare(line), out)
 }

@@ -2,15 +2,16 @@
 
 #![tactic(auto)]
 
-ghost use Rattle.std.specs.Prelude.{◌≡◌, ◌+◌, ◌≤◌, length};
+ghost use Rattle.std.specs.Prelude.{◌≡◌, ◌+◌, ◌≤◌, length, drop};
 ghost use Rattle.lines.specs.Lines.{is_passed, NextLine};
 
-use crate::find::find;
-use crate::words::{bare_end, next_word};
+use crate::before::before;
+use crate::words::{bare, next_word};
 
 pub mod asked;
+mod before;
+pub mod field;
 pub mod fields;
-mod find;
 pub mod rows;
 pub mod words;
 
@@ -18,45 +19,40 @@ pub mod words;
 fn is_passed(line: &[u8]) -> bool
     ensures { result ≡ is_passed line.now }
 {
-    let end = bare_end(line);
-    let w = next_word(&line[..end], 0);
-    w.from == w.to
+    next_word(bare(line)).is_none()
 }
 
-// A line that is not skipped: where it is, and its number. If there is none, the number is that of the line after the last.
-#[derive(Clone, Copy)]
-pub struct Found {
-    pub there: bool,
-    pub from: usize,
-    pub to: usize,
-    pub number: usize,
-}
-
-// The next line from `at` on, at which line `first` begins.
-pub fn next_line(text: &[u8], at: usize, first: usize) -> Found
-    requires { (length text.now ≤ 1048576) × (at ≤ length text.now + 1) × (first ≤ at + 1) }
-    ensures { NextLine text.now at first result }
+// What follows a text's first line, given the line's length. Its newline may be missing.
+fn behind(text: &[u8], size: usize) -> &[u8]
+    requires { size ≤ length text.now }
+    ensures { result.now ≡ drop (size + 1) text.now }
 {
-    let mut from = at;
+    &text[text.len().min(size + 1)..]
+}
+
+// A line that is not skipped, its number, and the text that follows it.
+#[derive(Clone, Copy)]
+pub struct Next<'a> {
+    pub number: usize,
+    pub line: &'a [u8],
+    pub rest: &'a [u8],
+}
+
+// The next line of a text whose first line has this number; or the number of the line after the last.
+pub fn next_line(text: &[u8], first: usize) -> Result<Next<'_>, usize>
+    requires { first + length text.now ≤ usize.MAX }
+    ensures { NextLine text.now first result }
+{
+    let mut left = text;
     let mut number = first;
-    while from < text.len() {
-        let to = find(text, from, text.len(), b'\n');
-        if !is_passed(&text[from..to]) {
-            return Found {
-                there: true,
-                from,
-                to,
-                number,
-            };
+    while !left.is_empty() {
+        let line = before(left, b'\n');
+        let rest = behind(left, line.len());
+        if !is_passed(line) {
+            return Ok(Next { number, line, rest });
         }
-        from = to + 1;
+        left = rest;
         number += 1;
     }
-    let end = text.len();
-    Found {
-        there: false,
-        from: end,
-        to: end,
-        number,
-    }
+    Err(number)
 }

@@ -1,143 +1,101 @@
 // The first three lines of a text: T and N, or T, N and F; the owners; the starting values.
-ghost use Rattle.std.specs.Prelude.{true, ◌≡◌, ◌≤◌, length};
-ghost use Rattle.codec.specs.Store.{store};
-ghost use Rattle.codec.specs.Limit.{max_objects, max_cells};
-ghost use Rattle.reader.specs.Parse.{all_below};
+ghost use Rattle.std.specs.Prelude.{true, map, ◌≡◌, ◌≤◌, length};
+ghost use Rattle.codec.specs.Limit.{max_objects};
+ghost use Rattle.lines.specs.Field.{value_of};
 ghost use Rattle.lines.specs.Fields.{fields_of};
-ghost use Rattle.lines.specs.Number.{none};
-ghost use Rattle.lines.specs.Rows.{is_row, no_sizes, sizes_of, owner_of, owners_of};
+ghost use Rattle.lines.specs.Rows.{is_row, numbers_of, sizes_of, owner_of, owners_of};
 
-use crate::fields::{NONE, fields};
-use codec::limit::{CELLS, OBJECTS};
+use crate::fields::field;
+use crate::words::{bare, next_word};
+use codec::limit::OBJECTS;
 
-// T and N as a line gives them, whether it has F too, and F, or 0; `good` is false if the line is malformed.
+// T and N as a line gives them, and F if the line has it.
 #[derive(Clone, Copy)]
 pub struct Sizes {
-    pub good: bool,
     pub tasks: usize,
     pub objects: usize,
-    pub named: bool,
-    pub fields: usize,
+    pub fields: Option<usize>,
 }
 
-// Whether each field is a number.
-fn numbers_in(row: &[u64]) -> bool
-    ensures { result ≡ all_below none row.now }
+// A line of as many numbers as the row has places. Returns whether it is one; the numbers are put into the row.
+pub fn read_row(line: &[u8], row: &mut [u32]) -> bool
+    ensures value { result ≡ is_row (length row.old) (fields_of line.now) }
+    ensures row_after { result ≡ true → row.new ≡ map value_of (fields_of line.now) }
 {
-    for i in 0..row.len() {
-        if NONE <= row[i] {
+    let mut rest = bare(line);
+    for place in row.iter_mut() {
+        let Some(word) = next_word(rest) else {
             return false;
-        }
+        };
+        let Some(number) = field(word.bytes).number() else {
+            return false;
+        };
+        *place = number;
+        rest = word.rest;
     }
-    true
+    next_word(rest).is_none()
 }
 
-// Whether a line consists of `count` numbers. They are put into the row.
-pub fn is_row(line: &[u8], count: usize, row: &mut [u64]) -> bool
-    requires { (length line.now ≤ 1048576) × (count ≤ length row.old) }
-    ensures value { result ≡ is_row count (fields_of line.now) }
-    ensures row_after { row.new ≡ store row.old 0 (fields_of line.now) }
+// A line of N numbers.
+pub fn numbers<const N: usize>(line: &[u8]) -> Option<[u32; N]>
+    ensures { result ≡ numbers_of N (fields_of line.now) }
 {
-    let n = fields(line, row);
-    if n != count {
-        return false;
+    let mut row = [0u32; N];
+    if !read_row(line, &mut row) {
+        return None;
     }
-    numbers_in(&row[..n])
-}
-
-// The answer for a malformed line.
-pub fn no_sizes() -> Sizes
-    ensures { result ≡ no_sizes }
-{
-    Sizes {
-        good: false,
-        tasks: 0,
-        objects: 0,
-        named: false,
-        fields: 0,
-    }
+    Some(row)
 }
 
 // T and N, or T, N and F.
-pub fn sizes_of(line: &[u8]) -> Sizes
-    requires { length line.now ≤ 1048576 }
+pub fn sizes_of(line: &[u8]) -> Option<Sizes>
     ensures { result ≡ sizes_of (fields_of line.now) }
 {
-    let mut row = [0u64; 3];
-    if is_row(line, 2, &mut row) {
-        return Sizes {
-            good: true,
-            tasks: row[0] as usize,
-            objects: row[1] as usize,
-            named: false,
-            fields: 0,
-        };
+    if let Some(row) = numbers::<2>(line) {
+        let [tasks, objects] = row;
+        return Some(Sizes {
+            tasks: tasks as usize,
+            objects: objects as usize,
+            fields: None,
+        });
     }
-    if is_row(line, 3, &mut row) {
-        return Sizes {
-            good: true,
-            tasks: row[0] as usize,
-            objects: row[1] as usize,
-            named: true,
-            fields: row[2] as usize,
-        };
-    }
-    no_sizes()
+    let [tasks, objects, fields] = numbers::<3>(line)?;
+    Some(Sizes {
+        tasks: tasks as usize,
+        objects: objects as usize,
+        fields: Some(fields as usize),
+    })
 }
 
 // An owner above 255 becomes 255, which is below no T.
-fn owner(number: u64) -> u8
+fn owner(number: u32) -> u8
     ensures { result ≡ owner_of number }
 {
-    if 255 < number { 255 } else { number as u8 }
+    number.min(255) as u8
 }
 
 // Stores the owners, one byte each.
-fn set_owners(row: &[u64], owners: &mut [u8])
+fn set_owners(row: &[u32], owners: &mut [u8])
     requires { length owners.old ≡ length row.now }
-    ensures { owners.new ≡ owners_of row.now }
+    ensures { owners.new ≡ map owner_of row.now }
 {
-    for i in 0..row.len() {
-        owners[i] = owner(row[i]);
-    }
-}
-
-// Stores the starting values.
-fn set_starts(row: &[u64], starts: &mut [u32])
-    requires { (length starts.old ≡ length row.now) × (all_below none row.now ≡ true) }
-    ensures { starts.new ≡ row.now }
-{
-    for i in 0..row.len() {
-        starts[i] = row[i] as u32;
+    for (i, number) in row.iter().enumerate() {
+        owners[i] = owner(*number);
     }
 }
 
 // The owners' line. Returns whether it holds one number for each owner.
 pub fn read_owners(line: &[u8], owners: &mut [u8]) -> bool
-    requires { (length line.now ≤ 1048576) × (length owners.old ≤ max_objects) }
+    requires { length owners.old ≤ max_objects }
     ensures value { result ≡ is_row (length owners.old) (fields_of line.now) }
     ensures owners_after { result ≡ true → owners.new ≡ owners_of (fields_of line.now) }
 {
     let n = owners.len();
-    let mut row = [0u64; OBJECTS];
-    if !is_row(line, n, &mut row) {
+    let mut space = [0u32; OBJECTS];
+    let row = &mut space[..n];
+    if !read_row(line, row) {
         return false;
     }
-    set_owners(&row[..n], owners);
-    true
-}
-
-// The starting values' line. Returns whether it holds one number for each value.
-pub fn read_starts(line: &[u8], starts: &mut [u32]) -> bool
-    requires { (length line.now ≤ 1048576) × (length starts.old ≤ max_cells) }
-    ensures value { result ≡ is_row (length starts.old) (fields_of line.now) }
-    ensures starts_after { result ≡ true → starts.new ≡ fields_of line.now }
-{
-    let n = starts.len();
-    let mut row = [0u64; CELLS];
-    if !is_row(line, n, &mut row) {
-        return false;
-    }
-    set_starts(&row[..n], starts);
+    set_owners(row, owners);
     true
 }

@@ -1,66 +1,62 @@
 // The words of a line.
-ghost use Rattle.std.specs.Prelude.{cond, not, ◌≡◌, ◌+◌, ◌≤◌, length, take, drop};
+ghost use Rattle.std.specs.Prelude.{not, ◌≡◌, ◌≤◌, length};
+ghost use Rattle.std.specs.List.{position};
 ghost use Rattle.lines.specs.Words.{is_blank, bare_of, NextWord};
-ghost use Rattle.lines.specs.Laws.WordsCode.{run_of};
+ghost use Rattle.lines.specs.Laws.WordsCode.{in_run, run_of};
 
-use crate::find::find;
+use crate::before::before;
 
 // Space, tab and carriage return.
 fn is_blank(byte: u8) -> bool
     ensures { result ≡ is_blank byte }
 {
-    if byte == b' ' {
-        return true;
-    }
-    if byte == b'\t' {
-        return true;
-    }
-    byte == b'\r'
+    matches!(byte, b' ' | b'\t' | b'\r')
 }
 
 // Whether a byte belongs to a run of blanks, or of other bytes.
 fn in_run(byte: u8, blanks: bool) -> bool
-    ensures { result ≡ cond blanks (is_blank byte) (not (is_blank byte)) }
+    ensures { result ≡ in_run blanks byte }
 {
-    let blank = is_blank(byte);
-    if blanks { blank } else { !blank }
+    is_blank(byte) == blanks
 }
 
-// Where the run that begins at `at` ends.
-fn run_end(line: &[u8], at: usize, blanks: bool) -> usize
-    requires { at ≤ length line.now }
-    ensures { result ≡ at + run_of blanks (drop at line.now) }
+// Where the run of blanks, or of other bytes, that a line begins with ends, if other bytes follow it.
+fn run_end(line: &[u8], blanks: bool) -> Option<usize>
+    ensures { result ≡ position (λ b. not (in_run blanks b)) line.now }
 {
-    let mut i = at;
-    while i < line.len() {
-        if !in_run(line[i], blanks) {
-            return i;
-        }
-        i += 1;
-    }
-    i
+    line.iter().position(|byte| !in_run(*byte, blanks))
 }
 
-// Where a word begins and ends; both are the line's end if there is none.
+// The length of that run.
+fn run_length(line: &[u8], blanks: bool) -> usize
+    ensures value { result ≡ run_of blanks line.now }
+    ensures bound { result ≤ length line.now }
+{
+    run_end(line, blanks).unwrap_or(line.len())
+}
+
+// A word of a line, and what follows it.
 #[derive(Clone, Copy)]
-pub struct Word {
-    pub from: usize,
-    pub to: usize,
+pub struct Word<'a> {
+    pub bytes: &'a [u8],
+    pub rest: &'a [u8],
 }
 
-// The next word from `at` on, in a line without its comment.
-pub fn next_word(line: &[u8], at: usize) -> Word
-    requires { at ≤ length line.now }
-    ensures { NextWord line.now at result.from result.to }
+// The next word of a line without its comment.
+pub fn next_word(line: &[u8]) -> Option<Word<'_>>
+    ensures { NextWord line.now result }
 {
-    let from = run_end(line, at, true);
-    let to = run_end(line, from, false);
-    Word { from, to }
+    let (_, filled) = line.split_at(run_length(line, true));
+    let (bytes, rest) = filled.split_at(run_length(filled, false));
+    if bytes.is_empty() {
+        return None;
+    }
+    Some(Word { bytes, rest })
 }
 
-// Where a line's comment begins, or where the line ends if it has none.
-pub fn bare_end(line: &[u8]) -> usize
-    ensures { (result ≤ length line.now) × (take result line.now ≡ bare_of line.now) }
+// A line without its comment.
+pub fn bare(line: &[u8]) -> &[u8]
+    ensures { result.now ≡ bare_of line.now }
 {
-    find(line, 0, line.len(), b'#')
+    before(line, b'#')
 }

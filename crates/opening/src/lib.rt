@@ -31,8 +31,8 @@ pub struct Opened {
 fn owners_below(owners: &[u8], tasks: usize) -> bool
     ensures { result ≡ all_below tasks owners.now }
 {
-    for i in 0..owners.len() {
-        if tasks <= owners[i] as usize {
+    for owner in owners {
+        if tasks <= *owner as usize {
             return false;
         }
     }
@@ -40,18 +40,13 @@ fn owners_below(owners: &[u8], tasks: usize) -> bool
 }
 
 // N owners, and N times F starting values and entries of memory.
+#[tactic(auto, unfolding(crate::specs::OpenOf::entries_ok))]
 fn entries_ok(fields: usize, objects: usize, owners: usize, starts: usize, memory: usize) -> bool
     requires { (fields ≤ max_fields) × (objects ≤ max_objects) }
     ensures { result ≡ entries_ok fields objects owners starts memory }
 {
-    if owners != objects {
-        return false;
-    }
     let cells = cells_of(fields, objects);
-    if starts != cells {
-        return false;
-    }
-    memory == cells
+    owners == objects && starts == cells && memory == cells
 }
 
 // The number of an opening that takes `least` to 8 fields: 1, 2, 20, 3, 4, 9, in this order.
@@ -93,8 +88,9 @@ fn owned_cells(owners: &[u8], fields: usize) -> [CellRecord; CELLS]
     requires { (length owners.now ≤ max_objects) × (fields ≤ max_fields) }
     ensures { result ≡ owned_cells owners.now fields (cells_of fields (length owners.now)) }
 {
-    let first = Locality::WriteExclusive(0);
-    let blank = CellRecord { locality: first };
+    let blank = CellRecord {
+        locality: Locality::WriteExclusive(0),
+    };
     let mut cells = [blank; CELLS];
     let width = width_of(fields);
     for i in 0..cells_of(fields, owners.len()) {
@@ -111,9 +107,7 @@ fn set_memory(memory: &mut [u32], starts: &[u32])
     requires { length memory.old ≡ length starts.now }
     ensures { memory.new ≡ starts.now }
 {
-    for i in 0..starts.len() {
-        memory[i] = starts[i];
-    }
+    memory.copy_from_slice(starts);
 }
 
 // The state of an opening with T, N, F and owners in range.
@@ -122,7 +116,6 @@ fn opened_state(tasks: usize, fields: usize, owners: &[u8]) -> State
     ensures { result ≡ opened_state tasks (length owners.now) fields owners.now }
 {
     let cells = owned_cells(owners, fields);
-    let last = Position { task: 0, number: 0 };
     State {
         tasks: tasks as u16,
         objects: owners.len() as u16,
@@ -132,7 +125,7 @@ fn opened_state(tasks: usize, fields: usize, owners: &[u8]) -> State
         seen: [0u32; TASKS],
         took: [0u16; TASKS],
         shares: 0,
-        last,
+        last: Position { task: 0, number: 0 },
     }
 }
 

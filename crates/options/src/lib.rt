@@ -1,345 +1,251 @@
 // The options of a program that can be paused: --steps N, --done N0 N1 ..., --order FILE, each at most once, before the file.
 #![tactic(auto)]
 
-ghost use Rattle.std.specs.Prelude.{◌≡◌, ◌≤◌, ◌<◌};
-ghost use Rattle.input.specs.Counts.{IsPrefixLen};
+ghost use Rattle.std.specs.Prelude.{◌≡◌, ◌≤◌, ◌<◌, IfOk, IfSome, length};
+ghost use Rattle.input.specs.Counts.{FitsIn};
 
-use input::{
-    Input, LONGEST_WORD, from_argument, from_rest, is_option, put_usage, word_at, word_count,
-};
-use lines::fields::{NONE, field};
+use input::{Program, from_argument, from_rest, is_option, number_at, with_word, word_count};
 
 // What `most` is if --steps is not given: more than any number that it takes.
+// Kept: `pause::tell` takes a number of steps, and its theorems speak of one.
 pub const ALL: usize = 4294967296;
 
 // The most words that are taken: the program's own name and 64 arguments.
 const MOST_WORDS: usize = 65;
 
-// The input and what was asked. If `asked` is false there were no options. The counts and the order are at the front of their buffers.
-// If `read` is false there is nothing to work on, and the reason has already been written.
+// What the options ask for: the most steps, the counts, and the order if there is one.
 #[derive(Clone, Copy)]
-pub struct PausingInput {
-    pub read: bool,
-    pub count: usize,
-    pub asked: bool,
+pub struct Pause<'b> {
     pub most: usize,
-    pub counts: usize,
-    pub ordered: bool,
-    pub order: usize,
+    pub counts: &'b [u32],
+    pub order: Option<&'b [u8]>,
 }
 
-// What the options say; `next` is the argument after them. If `stepped` is true, `steps` is the number of --steps. `done` is the argument
-// with the first count and `order` the one with the order's name, 0 if not given. If `wrong` is true they are not as the usage says.
+// The input and what was asked, if there were options.
+#[derive(Clone, Copy)]
+pub struct Asked<'b> {
+    pub bytes: &'b [u8],
+    pub pause: Option<Pause<'b>>,
+}
+
+// The arguments are not as the usage says.
+#[derive(Clone, Copy)]
+struct Misuse;
+
+#[derive(Clone, Copy)]
+enum Name {
+    Steps,
+    Done,
+    Order,
+}
+
+// What the options say: the number of --steps, the argument with the first count and the one with the order's name. `next` is the argument
+// after them.
 #[derive(Clone, Copy)]
 struct Options {
     next: usize,
-    wrong: bool,
-    stepped: bool,
-    steps: u32,
-    done: usize,
-    order: usize,
+    steps: Option<u32>,
+    done: Option<usize>,
+    order: Option<usize>,
 }
 
-// Whether an argument is this word.
-fn is_word(rt: HostRuntime, at: usize, name: &[u8]) -> bool {
-    let mut word = [0u8; LONGEST_WORD];
-    let length = word_at(rt, at, &mut word);
-    &word[..length] == name
+// The option that an argument is, if it is one.
+fn name_at(rt: HostRuntime, at: usize) -> Option<Name> {
+    with_word(rt, at, |word| match word {
+        b"--steps" => Some(Name::Steps),
+        b"--done" => Some(Name::Done),
+        b"--order" => Some(Name::Order),
+        _ => None,
+    })
+}
+
+// Whether an argument is standard input.
+fn is_standard(rt: HostRuntime, at: usize) -> bool {
+    with_word(rt, at, |word| word == b"-".as_slice())
 }
 
 // Whether an argument can name a file: `-` is standard input, and any other word that begins with it is an option.
-fn is_name(rt: HostRuntime, at: usize) -> bool {
-    let mut word = [0u8; LONGEST_WORD];
-    let length = word_at(rt, at, &mut word);
-    if &word[..length] == b"-".as_slice() {
-        return true;
-    }
-    !is_option(&word[..length])
-}
-
-// An argument as a number; NONE or more if it is missing or not a number.
-fn number_at(rt: HostRuntime, at: usize) -> u64 {
-    let mut word = [0u8; LONGEST_WORD];
-    let length = word_at(rt, at, &mut word);
-    field(&word[..length])
+fn is_file(rt: HostRuntime, at: usize) -> bool {
+    is_standard(rt, at) || with_word(rt, at, |word| !is_option(word))
 }
 
 // The first argument from `from` on that is not a number.
 fn past_numbers(rt: HostRuntime, from: usize, words: usize) -> usize
     requires { from ≤ words }
-    ensures { result ≤ words }
+    ensures { from ≤ result }
 {
-    let mut at = from;
-    while at < words {
-        if NONE <= number_at(rt, at) {
-            return at;
-        }
-        at += 1;
-    }
-    at
+    (from..words)
+        .find(|at| number_at(rt, *at).is_none())
+        .unwrap_or(words)
 }
 
 // --steps and a number.
-fn take_steps(rt: HostRuntime, mut o: Options, words: usize) -> Options
+fn take_steps(rt: HostRuntime, o: Options, words: usize) -> Result<Options, Misuse>
     requires { o.next < words }
-    ensures { result.next ≤ words }
+    ensures { IfOk result (λ more. o.next < more.next) }
 {
     let at = o.next + 1;
-    let n = number_at(rt, at);
-    o.wrong = true;
-    if o.stepped {
-        return o;
+    if o.steps.is_some() || words <= at {
+        return Err(Misuse);
     }
-    if words <= at {
-        return o;
-    }
-    if NONE <= n {
-        return o;
-    }
-    o.wrong = false;
-    o.next = at + 1;
-    o.stepped = true;
-    o.steps = n as u32;
-    o
+    let steps = Some(number_at(rt, at).ok_or(Misuse)?);
+    let next = at + 1;
+    Ok(Options { next, steps, ..o })
 }
 
 // --done and one count or more.
-fn take_done(rt: HostRuntime, mut o: Options, words: usize) -> Options
+fn take_done(rt: HostRuntime, o: Options, words: usize) -> Result<Options, Misuse>
     requires { o.next < words }
-    ensures { result.next ≤ words }
+    ensures { IfOk result (λ more. o.next < more.next) }
 {
     let at = o.next + 1;
-    let end = past_numbers(rt, at, words);
-    o.wrong = true;
-    if o.done != 0 {
-        return o;
+    let next = past_numbers(rt, at, words);
+    if o.done.is_some() || next == at {
+        return Err(Misuse);
     }
-    if end == at {
-        return o;
-    }
-    o.wrong = false;
-    o.next = end;
-    o.done = at;
-    o
+    let done = Some(at);
+    Ok(Options { next, done, ..o })
 }
 
 // --order and a file's name.
-fn take_order(rt: HostRuntime, mut o: Options, words: usize) -> Options
+fn take_order(rt: HostRuntime, o: Options, words: usize) -> Result<Options, Misuse>
     requires { o.next < words }
-    ensures { result.next ≤ words }
+    ensures { IfOk result (λ more. o.next < more.next) }
 {
     let at = o.next + 1;
-    o.wrong = true;
-    if o.order != 0 {
-        return o;
+    if o.order.is_some() || words <= at || !is_file(rt, at) {
+        return Err(Misuse);
     }
-    if words <= at {
-        return o;
-    }
-    if !is_name(rt, at) {
-        return o;
-    }
-    o.wrong = false;
-    o.next = at + 1;
-    o.order = at;
-    o
+    let next = at + 1;
+    let order = Some(at);
+    Ok(Options { next, order, ..o })
 }
 
-// One option more. If the next argument is no option, or if the option is wrong, `next` stays.
-fn take_option(rt: HostRuntime, o: Options, words: usize) -> Options
-    requires { o.next < words }
-    ensures { result.next ≤ words }
+// One option more, unless the next argument is none.
+fn take_option(rt: HostRuntime, o: Options, words: usize) -> Result<Option<Options>, Misuse>
+    ensures { IfOk result (λ taken. IfSome taken (λ more. (o.next < words) × (o.next < more.next))) }
 {
-    let at = o.next;
-    if is_word(rt, at, b"--steps") {
-        return take_steps(rt, o, words);
+    if words <= o.next {
+        return Ok(None);
     }
-    if is_word(rt, at, b"--done") {
-        return take_done(rt, o, words);
-    }
-    if is_word(rt, at, b"--order") {
-        return take_order(rt, o, words);
-    }
-    o
+    let Some(name) = name_at(rt, o.next) else {
+        return Ok(None);
+    };
+    let more = match name {
+        Name::Steps => take_steps(rt, o, words)?,
+        Name::Done => take_done(rt, o, words)?,
+        Name::Order => take_order(rt, o, words)?,
+    };
+    Ok(Some(more))
 }
 
-// All options, up to the first argument that is none. An option that does not move `next` is wrong, and is the last.
-fn take_options(rt: HostRuntime, words: usize) -> Options {
+// All options, up to the first argument that is none.
+fn take_options(rt: HostRuntime, words: usize) -> Result<Options, Misuse> {
     let mut o = Options {
         next: 1,
-        wrong: false,
-        stepped: false,
-        steps: 0,
-        done: 0,
-        order: 0,
+        steps: None,
+        done: None,
+        order: None,
     };
-    let mut at = 0;
-    while at < o.next {
-        at = o.next;
-        if words <= at {
-            return o;
-        }
-        o = take_option(rt, o, words);
+    while let Some(more) = take_option(rt, o, words)? {
+        o = more;
     }
-    o
+    Ok(o)
 }
 
-// Whether the options are not as the usage says, or the order and the recording would both be standard input.
-fn is_misuse(rt: HostRuntime, o: Options, words: usize) -> bool {
-    let order = o.order;
+// Whether the order and the recording would both be standard input.
+fn is_shared(rt: HostRuntime, o: Options, words: usize) -> bool {
     let next = o.next;
-    if MOST_WORDS < words {
-        return true;
+    match o.order {
+        Some(order) => is_standard(rt, order) && (words <= next || is_standard(rt, next)),
+        None => false,
     }
-    if o.wrong {
-        return true;
-    }
-    if order == 0 {
-        return false;
-    }
-    if !is_word(rt, order, b"-") {
-        return false;
-    }
-    if words <= next {
-        return true;
-    }
-    is_word(rt, next, b"-")
 }
 
-// Puts the counts from an argument on at the front, as far as there is room for them, and returns how many.
-fn put_counts(rt: HostRuntime, from: usize, words: usize, counts: &mut [u32]) -> usize
-    ensures { IsPrefixLen result counts.new }
+// The options, if all arguments are as the usage says.
+fn options_of(rt: HostRuntime, words: usize) -> Result<Options, Misuse> {
+    let o = take_options(rt, words)?;
+    if MOST_WORDS < words || is_shared(rt, o, words) {
+        return Err(Misuse);
+    }
+    Ok(o)
+}
+
+// Puts the counts from an argument on at the front, as far as there is room for them.
+fn put_counts<'b>(rt: HostRuntime, from: usize, words: usize, counts: &'b mut [u32]) -> &'b [u32]
+    ensures { length result.now ≤ length counts.old }
 {
     let mut n = 0;
-    let mut at = from;
-    while at < words {
-        let v = number_at(rt, at);
-        if NONE <= v {
-            return n;
-        }
-        if counts.len() <= n {
-            return n;
-        }
-        counts[n] = v as u32;
-        n += 1;
-        at += 1;
-    }
-    n
-}
-
-// Nothing to work on.
-fn nothing() -> PausingInput
-    ensures { (result.count ≡ 0) × (result.most ≡ 0) × (result.counts ≡ 0) × (result.order ≡ 0) }
-{
-    PausingInput {
-        read: false,
-        count: 0,
-        asked: false,
-        most: 0,
-        counts: 0,
-        ordered: false,
-        order: 0,
-    }
-}
-
-// The number of steps.
-fn most_steps(o: Options) -> usize
-    ensures { result ≤ 4294967296 }
-{
-    if o.stepped { o.steps as usize } else { ALL }
-}
-
-// Reads the order from the file that an argument names; nothing if there is no such option.
-fn read_order(
-    rt: HostRuntime,
-    at: usize,
-    program: &[u8],
-    options: &[u8],
-    help: &[u8],
-    order: &mut [u8],
-) -> Input
-    ensures { IsPrefixLen result.count order.new }
-{
-    if at == 0 {
-        return Input {
-            read: true,
-            count: 0,
+    for at in from..words {
+        let Some(count) = number_at(rt, at) else {
+            break;
         };
+        if counts.len() <= n {
+            break;
+        }
+        counts[n] = count;
+        n += 1;
     }
-    from_argument(rt, at, program, options, b"an order", help, order)
+    &counts[..n]
 }
 
-// Stores the counts if there is such an option.
-fn read_counts(rt: HostRuntime, at: usize, words: usize, counts: &mut [u32]) -> usize
-    ensures { IsPrefixLen result counts.new }
-{
-    if at == 0 {
-        return 0;
-    }
-    put_counts(rt, at, words, counts)
-}
-
-// Reads what the options ask for, the recording first: if it cannot be read, or --help stands for it, the order is left alone.
-fn follow(
+// What the options ask for. The order is read from the file that its argument names.
+fn read_pause<'b>(
     rt: HostRuntime,
     o: Options,
     words: usize,
-    program: &[u8],
-    options: &[u8],
-    expected: &[u8],
-    help: &[u8],
-    buffer: &mut [u8],
-    counts: &mut [u32],
-    order: &mut [u8],
-) -> PausingInput
-    ensures count_bound { IsPrefixLen result.count buffer.new }
-    ensures order_bound { IsPrefixLen result.order order.new }
-    ensures counts_bound { IsPrefixLen result.counts counts.new }
-    ensures most_bound { result.most ≤ 4294967296 }
+    program: Program,
+    counts: &'b mut [u32],
+    order: &'b mut [u8],
+) -> Option<Pause<'b>>
+    ensures counts_bound { IfSome result (λ pause. length pause.counts.now ≤ length counts.old) }
+    ensures order_bound { IfSome result (λ pause. FitsIn pause.order order.old) }
+    ensures most_bound { IfSome result (λ pause. pause.most ≤ 4294967296) }
 {
-    let i = from_rest(rt, o.next, program, options, expected, help, buffer);
-    if !i.read {
-        return nothing();
-    }
-    let j = read_order(rt, o.order, program, options, help, order);
-    if !j.read {
-        return nothing();
-    }
-    let n = read_counts(rt, o.done, words, counts);
-    PausingInput {
-        read: true,
-        count: i.count,
-        asked: 1 < o.next,
-        most: most_steps(o),
-        counts: n,
-        ordered: o.order != 0,
-        order: j.count,
-    }
+    let order = match o.order {
+        Some(at) => Some(from_argument(rt, at, program, order)?),
+        None => None,
+    };
+    let counts = match o.done {
+        Some(from) => put_counts(rt, from, words, counts),
+        None => &counts[..0],
+    };
+    let most = o.steps.map_or(ALL, |steps| steps as usize);
+    Some(Pause {
+        most,
+        counts,
+        order,
+    })
 }
 
-// The same as `input::from_arguments` for a program that takes these options before the file.
-pub fn with_pause(
+// The same as `input::from_arguments` for a program that takes these options before the file. The recording is read first: if it cannot be
+// read, or --help stands for it, the order is left alone.
+pub fn with_pause<'b>(
     rt: HostRuntime,
-    program: &[u8],
-    expected: &[u8],
-    help: &[u8],
-    buffer: &mut [u8],
-    counts: &mut [u32],
-    order: &mut [u8],
-) -> PausingInput
-    ensures count_bound { IsPrefixLen result.count buffer.new }
-    ensures order_bound { IsPrefixLen result.order order.new }
-    ensures counts_bound { IsPrefixLen result.counts counts.new }
-    ensures most_bound { result.most ≤ 4294967296 }
+    program: Program,
+    buffer: &'b mut [u8],
+    counts: &'b mut [u32],
+    order: &'b mut [u8],
+) -> Option<Asked<'b>>
+    ensures bytes_bound { IfSome result (λ asked. length asked.bytes.now ≤ length buffer.old) }
+    ensures counts_bound { IfSome result (λ asked. IfSome asked.pause (λ pause. length pause.counts.now ≤ length counts.old)) }
+    ensures order_bound { IfSome result (λ asked. IfSome asked.pause (λ pause. FitsIn pause.order order.old)) }
+    ensures most_bound { IfSome result (λ asked. IfSome asked.pause (λ pause. pause.most ≤ 4294967296)) }
 {
-    let options = b" [--steps N] [--done N0 N1 ...] [--order FILE]";
     let words = word_count(rt);
-    let o = take_options(rt, words);
-    if is_misuse(rt, o, words) {
-        put_usage(&rt.stderr(), program, options);
-        return nothing();
+    let Ok(o) = options_of(rt, words) else {
+        program.put_usage(&rt.stderr());
+        return None;
+    };
+    let bytes = from_rest(rt, o.next, program, buffer)?;
+    if o.next == 1 {
+        return Some(Asked { bytes, pause: None });
     }
-    follow(
-        rt, o, words, program, options, expected, help, buffer, counts, order,
-    )
+    let expected = b"an order";
+    let program = Program {
+        expected,
+        ..program
+    };
+    let pause = Some(read_pause(rt, o, words, program, counts, order)?);
+    Some(Asked { bytes, pause })
 }

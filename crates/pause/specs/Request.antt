@@ -1,7 +1,7 @@
 -- What the replay program can be asked (document 02, F-4): `--steps`, the number of steps after which it stops; `--done`, a count for each
 -- task; `--order`, a text of at most 65,536 bytes whose order it follows. Without an order the lowest ready task that is not at its count
 -- goes next.
-use Rattle.std.specs.Prelude.{Bool, cond, not, ◌&&◌, ◌||◌, List, [], ◌∷◌, ◌++◌, ℕ, eqb, leb, ltb, length}
+use Rattle.std.specs.Prelude.{Bool, cond, ◌&&◌, ◌||◌, Option, option_map, unwrap_or, List, [], ◌∷◌, ◌++◌, ℕ, eqb, leb, ltb, length}
 use Rattle.order.specs.Order.{wrong_line, tasks_of}
 use Rattle.pending.specs.declared.Run.{Run}
 use Rattle.replay_lines.specs.Limits.{longest}
@@ -9,28 +9,27 @@ use Rattle.scheduler.specs.Schedule.{schedule_of}
 use Rattle.text.specs.Decimal.{field_of}
 use Rattle.follow.specs.Within.{run_within}
 
--- `tasks` are those of the order, if there is one
+-- `order` has the tasks of the order, if there is one
 pub record Request : Type 0 where
   pub most : ℕ
   pub counts : List ℕ
-  pub ordered : Bool
-  pub tasks : List ℕ
+  pub order : Option (List ℕ)
 
 -- the steps from a run
 unfoldable pub steps_of : Request → List ℕ → Run → List ℕ
-steps_of q b r = cond q.ordered q.tasks (schedule_of b (run_within q.counts r))
+steps_of q b r = unwrap_or q.order (schedule_of b (run_within q.counts r))
 
 -- there are no counts, or one for each task
 unfoldable pub has_counts : List ℕ → ℕ → Bool
 has_counts counts tasks = eqb (length counts) 0 || eqb (length counts) tasks
 
 -- the order as text
-abbrev pub request_of : ℕ → List ℕ → Bool → List ℕ → Request
-request_of most counts ordered order = record { most = most; counts = counts; ordered = ordered; tasks = cond ordered (tasks_of order) [] }
+abbrev pub request_of : ℕ → List ℕ → Option (List ℕ) → Request
+request_of most counts order = record { most = most; counts = counts; order = option_map tasks_of order }
 
 -- it can be followed: it is not too long, and each of its lines is a task number
-unfoldable pub can_follow : Bool → List ℕ → Bool
-can_follow ordered order = not ordered || (leb (length order) longest && eqb (wrong_line order) 0)
+unfoldable pub can_follow : List ℕ → Bool
+can_follow order = leb (length order) longest && eqb (wrong_line order) 0
 
 -- `the order has more than 65,536 bytes`
 abbrev pub long_order : List ℕ

@@ -1,7 +1,7 @@
 -- What the replay program writes for a recording if it is asked to pause or to follow an order (document 02, F-4): `long` for more than
 -- 65,536 bytes; nothing, and the reason on standard error, if the order cannot be followed; `refused` with number and offset for bytes that
 -- are refused, and with 3 if there is not a count for each task; otherwise the text of the steps asked for.
-use Rattle.std.specs.Prelude.{Bool, cond, List, [], ℕ, ltb, length}
+use Rattle.std.specs.Prelude.{cond, Option, Some, None, List, [], ℕ, ltb, length}
 use Rattle.codec.specs.Number.{entries as wrong_length}
 use Rattle.entries.specs.Reading.{Reading, refused, read}
 use Rattle.reader.specs.Parse.{Parsed, parse}
@@ -31,12 +31,13 @@ answer_of q b (read p) =
     (record { text = refusal_of wrong_length 0; reasons = [] })
 
 -- the order as text
-unfoldable pub asked_of : ℕ → List ℕ → Bool → List ℕ → List ℕ → Streams
-asked_of most counts ordered order b =
-    cond (can_follow ordered order) (answer_of (request_of most counts ordered order) b (parse b)) (record { text = []; reasons = complaint_of order })
+unfoldable pub asked_of : ℕ → List ℕ → Option (List ℕ) → List ℕ → Streams
+asked_of most counts None b = answer_of (request_of most counts None) b (parse b)
+asked_of most counts (Some order) b =
+    cond (can_follow order) (answer_of (request_of most counts (Some order)) b (parse b)) (record { text = []; reasons = complaint_of order })
 
-unfoldable pub spoken_of : ℕ → List ℕ → Bool → List ℕ → List ℕ → Streams
-spoken_of most counts ordered order b = cond (ltb longest (length b)) (record { text = long_line; reasons = [] }) (asked_of most counts ordered order b)
+unfoldable pub spoken_of : ℕ → List ℕ → Option (List ℕ) → List ℕ → Streams
+spoken_of most counts order b = cond (ltb longest (length b)) (record { text = long_line; reasons = [] }) (asked_of most counts order b)
 
 -- the most bytes that a text can have (`Laws/Bound.told-few`)
 abbrev pub longest_text : ℕ
@@ -47,5 +48,5 @@ abbrev pub most_tasks : ℕ
 most_tasks = 32768
 
 -- into buffers of these lengths
-abbrev pub streams_of : ℕ → ℕ → ℕ → List ℕ → Bool → List ℕ → List ℕ → Streams
-streams_of room why_room most counts ordered order b = streams_within longest_text waits_most room why_room (spoken_of most counts ordered order b)
+abbrev pub streams_of : ℕ → ℕ → ℕ → List ℕ → Option (List ℕ) → List ℕ → Streams
+streams_of room why_room most counts order b = streams_within longest_text waits_most room why_room (spoken_of most counts order b)

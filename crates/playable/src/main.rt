@@ -2,18 +2,15 @@
 // order.
 #![tactic(auto)]
 
-use input::complain;
+use input::{Program, complain, from_arguments};
 use verdict::{space, tell};
 use waits::MOST_WAITS;
 
-// Reads one byte more than a recording may have, to notice a longer one.
-fn main(rt: HostRuntime) {
-    let mut bytes = [0u8; 65537];
-    let asked = input::from_arguments(
-        rt,
-        b"playable",
-        b"a recording",
-        b"Says whether a recording can be played to its end: is there an order of all accesses that keeps each
+const PROGRAM: Program = Program {
+    name: b"playable",
+    options: b"",
+    expected: b"a recording",
+    help: b"Says whether a recording can be played to its end: is there an order of all accesses that keeps each
 task's own order and every ordering? Values are not compared; replay does that.
 
 Reads FILE; with no FILE, or with -, standard input. A recording has at most 65,536 bytes; more give: long.
@@ -26,19 +23,19 @@ Writes to standard error what each held task waits for, and what could not be re
 
 There is no exit status: look at what was written.
 ",
-        &mut bytes,
-    );
-    if !asked.read {
+};
+
+// Reads one byte more than a recording may have, to notice a longer one.
+fn main(rt: HostRuntime) {
+    let mut bytes = [0u8; 65537];
+    let Some(bytes) = from_arguments(rt, PROGRAM, &mut bytes) else {
         return;
-    }
-    let n = asked.count;
+    };
     let mut out = space();
     let mut why = [0u8; MOST_WAITS];
-    let told = tell(&bytes[..n], &mut out, &mut why);
-    let text = told.text;
-    let reasons = told.reasons;
-    if rt.stdout().write_all(&out[..text]).is_err() {
+    let told = tell(bytes, &mut out, &mut why);
+    if rt.stdout().write_all(&out[..told.text]).is_err() {
         complain(rt, b"playable: could not write all of the answer\n");
     }
-    complain(rt, &why[..reasons]);
+    complain(rt, &why[..told.reasons]);
 }

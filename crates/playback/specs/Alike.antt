@@ -2,16 +2,17 @@
 -- memory"). Order of refusals: the first recording's bytes, the second's, then 3; a refusal leaves both memories as they were. Otherwise
 -- both runs are played, and each memory holds what its run ended with; a run that a 19 stopped has not finished, so it is alike to none
 -- (document 02, F-3).
-use Rattle.std.specs.Prelude.{Bool, false, cond, ◌&&◌, List, ℕ, eqb, length, get_or}
+use Rattle.std.specs.Prelude.{Ok, Err, Bool, false, cond, ◌&&◌, List, ℕ, eqb, length}
 use Rattle.reader.specs.Parse.{Parsed, parse}
-use Rattle.entries.specs.Reading.{Reading, refused, read}
+use Rattle.codec.specs.Reason.{number_of}
+use Rattle.entries.specs.Reading.{Reading}
 use Rattle.codec.specs.Number.{entries as wrong_length}
 use Rattle.playback.specs.declared.alike.Compared.{Compared}
 use Rattle.playback.specs.declared.finish.Played.{Played}
-use Rattle.pending.specs.All.{all_from}
 use Rattle.scheduler.specs.Finish.{Play}
 use Rattle.playback.specs.Shown.{shown_play}
 use Rattle.playback.specs.ToEnd.{play_of}
+use lib.Pointwise.{pointwise}
 use Rattle.codec.specs.Cell.{cells_of}
 
 -- the answer, and the memories after the call
@@ -20,12 +21,9 @@ pub record Comparison : Type 0 where
   pub first : List ℕ
   pub second : List ℕ
 
-abbrev pub same_at : List ℕ → List ℕ → ℕ → Bool
-same_at a b i = eqb (get_or a i 0) (get_or b i 0)
-
--- equal memories
+-- equal memories: as many entries, and each equal to the one at its place
 abbrev pub same_entries : List ℕ → List ℕ → Bool
-same_entries a b = eqb (length a) (length b) && all_from (same_at a b) 0 (length a)
+same_entries a b = pointwise eqb a b
 
 unfoldable pub alike_of : Played → Played → Bool → Bool
 alike_of x y memory =
@@ -46,9 +44,9 @@ comparing b c x y = record {
 }
 
 unfoldable pub compared : List ℕ → List ℕ → List ℕ → List ℕ → Reading Parsed → Reading Parsed → Comparison
-compared b c m n (refused d) y = refusing d.number d.offset m n
-compared b c m n (read p) (refused d) = refusing d.number d.offset m n
-compared b c m n (read p) (read q) =
+compared b c m n (Err d) y = refusing (number_of d.reason) d.offset m n
+compared b c m n (Ok p) (Err d) = refusing (number_of d.reason) d.offset m n
+compared b c m n (Ok p) (Ok q) =
     cond (eqb (length m) (cells_of p.recording.fields (length p.recording.owners)) && eqb (length n) (cells_of q.recording.fields (length q.recording.owners))) (comparing b c (play_of b m) (play_of c n))
     (refusing wrong_length 0 m n)
 

@@ -2,7 +2,7 @@
 use Rattle.std.specs.Prelude.{false, cond, List, ℕ, eqb, length}
 use Rattle.codec.specs.Number.{unsound}
 use Rattle.entries.specs.declared.Checked.{Checked}
-use Rattle.entries.specs.Reading.{stop}
+use Rattle.entries.specs.Reading.{numbered}
 use Rattle.pending.specs.declared.Run.{Run}
 use Rattle.pending.specs.Sound.{sound_of}
 use Rattle.playback.specs.declared.finish.Completion.{Completion}
@@ -14,8 +14,8 @@ use Rattle.scheduler.specs.Finish.{Play, word_at, task_next, finished_of}
 -- if no task is ready
 abbrev pub stopped_of : List ℕ → Play → Checked
 stopped_of b x =
-    cond (eqb (word_at b x) 0) (stop 0 0)
-    (stop (step_of x.run b x.memory (task_next b x)).answer.number (step_of x.run b x.memory (task_next b x)).answer.offset)
+    cond (eqb (word_at b x) 0) (numbered 0 0)
+    (numbered (step_of x.run b x.memory (task_next b x)).answer.number (step_of x.run b x.memory (task_next b x)).answer.offset)
 
 -- the answer about a play; its memory is the lent one
 abbrev pub shown_play : List ℕ → Play → Played

@@ -3,7 +3,7 @@
 -- what the run ended with, also where a 19 stopped it, which is told apart (document 02, F-3).
 use Rattle.std.specs.Prelude.{false, cond, List, ℕ, eqb}
 use Rattle.playback.specs.declared.to_end.Replayed.{Replayed}
-use Rattle.entries.specs.Reading.{stop}
+use Rattle.entries.specs.Reading.{numbered}
 use Rattle.scheduler.specs.Finish.{Play, finish_of, finished_of}
 use Rattle.playback.specs.Shown.{stopped_of}
 use Rattle.replayer.specs.OpenOf.{open_of}
@@ -18,7 +18,7 @@ pub record EndOutcome : Type 0 where
   pub memory : List ℕ
 
 abbrev pub refused_end : ℕ → ℕ → Replayed
-refused_end number offset = record { number = number; offset = offset; steps = 0; finished = false; stopped = stop 0 0 }
+refused_end number offset = record { number = number; offset = offset; steps = 0; finished = false; stopped = numbered 0 0 }
 
 -- the result of a play
 abbrev pub ended_of : List ℕ → Play → EndOutcome

@@ -1,15 +1,16 @@
 // Whether two recordings are alike: both are played to where they end, always the lowest ready task, and the results are compared.
-ghost use Rattle.std.specs.Prelude.{◌≡◌, length};
+ghost use Rattle.std.specs.Prelude.{Ok, ◌≡◌, length};
 ghost use Rattle.codec.specs.Cell.{cells_of};
 ghost use Rattle.reader.specs.Layout.{layout_of};
 ghost use Rattle.reader.specs.Parse.{parse};
+ghost use Rattle.codec.specs.Reason.{number_of};
 ghost use Rattle.playback.specs.Alike.{refused_compared, same_entries, alike_of, comparing, same_outcome_of};
 ghost use Rattle.playback.specs.ToEnd.{play_of};
 
 use crate::finish::Played;
 use crate::to_end::play;
 use codec::cell::cells_of;
-use codec::number::ENTRIES;
+use codec::number::Reason;
 use reader::layout::{Layout, locate};
 
 #[derive(Clone, Copy)]
@@ -19,51 +20,27 @@ pub struct Compared {
     pub alike: bool,
 }
 
-fn refused(number: u32, offset: usize) -> Compared
-    ensures { result ≡ refused_compared number offset }
+fn refused(reason: Reason, offset: usize) -> Compared
+    ensures { result ≡ refused_compared (number_of reason) offset }
 {
     Compared {
-        number,
+        number: reason.number(),
         offset,
         alike: false,
     }
 }
 
-// Whether two memories are equal.
-fn same_entries(first: &[u32], second: &[u32]) -> bool
-    ensures { result ≡ same_entries first.now second.now }
-{
-    if first.len() != second.len() {
-        return false;
-    }
-    for i in 0..first.len() {
-        if first[i] != second[i] {
-            return false;
-        }
-    }
-    true
-}
-
 // Both have finished, with equal T, N and step count, and `memory` says whether their memories are equal.
+#[tactic(auto, unfolding(crate::specs::Alike::alike_of))]
 fn alike(x: Played, y: Played, memory: bool) -> bool
     ensures { result ≡ alike_of x y memory }
 {
-    if !x.finished {
-        return false;
-    }
-    if !y.finished {
-        return false;
-    }
-    if x.tasks != y.tasks {
-        return false;
-    }
-    if x.objects != y.objects {
-        return false;
-    }
-    if x.steps != y.steps {
-        return false;
-    }
-    memory
+    x.finished
+        && y.finished
+        && x.tasks == y.tasks
+        && x.objects == y.objects
+        && x.steps == y.steps
+        && memory
 }
 
 // Plays both recordings, which have been checked, and compares the results.
@@ -75,15 +52,15 @@ fn compare(
     first_memory: &mut [u32],
     second_memory: &mut [u32],
 ) -> bool
-    requires l_value { (l ≡ layout_of (parse first.now)) × (l.number ≡ 0) × (length first_memory.old ≡ cells_of l.fields l.objects) }
-    requires k_value { (k ≡ layout_of (parse second.now)) × (k.number ≡ 0) × (length second_memory.old ≡ cells_of k.fields k.objects) }
+    requires l_value { (Ok l ≡ layout_of (parse first.now)) × (length first_memory.old ≡ cells_of l.fields l.objects) }
+    requires k_value { (Ok k ≡ layout_of (parse second.now)) × (length second_memory.old ≡ cells_of k.fields k.objects) }
     ensures value { result ≡ (comparing first.now second.now (play_of first.now first_memory.old) (play_of second.now second_memory.old)).answer.alike }
     ensures first_memory_after { first_memory.new ≡ (play_of first.now first_memory.old).memory }
     ensures second_memory_after { second_memory.new ≡ (play_of second.now second_memory.old).memory }
 {
     let x = play(first, l, first_memory);
     let y = play(second, k, second_memory);
-    let memory = same_entries(first_memory, second_memory);
+    let memory = &*first_memory == &*second_memory;
     alike(x, y, memory)
 }
 
@@ -98,19 +75,19 @@ pub fn same_outcome(
     ensures first_memory_after { first_memory.new ≡ (same_outcome_of first.now second.now first_memory.old second_memory.old).first }
     ensures second_memory_after { second_memory.new ≡ (same_outcome_of first.now second.now first_memory.old second_memory.old).second }
 {
-    let l = locate(first);
-    if l.number != 0 {
-        return refused(l.number, l.offset);
-    }
-    let k = locate(second);
-    if k.number != 0 {
-        return refused(k.number, k.offset);
-    }
+    let l = match locate(first) {
+        Ok(l) => l,
+        Err(refusal) => return refused(refusal.reason, refusal.offset),
+    };
+    let k = match locate(second) {
+        Ok(k) => k,
+        Err(refusal) => return refused(refusal.reason, refusal.offset),
+    };
     if first_memory.len() != cells_of(l.fields, l.objects) {
-        return refused(ENTRIES, 0);
+        return refused(Reason::Entries, 0);
     }
     if second_memory.len() != cells_of(k.fields, k.objects) {
-        return refused(ENTRIES, 0);
+        return refused(Reason::Entries, 0);
     }
     Compared {
         number: 0,

@@ -2,7 +2,7 @@
 ghost use Rattle.std.specs.Prelude.{◌≡◌, true, cond, ◌<◌};
 ghost use Rattle.codec.specs.Kind.{writes as writes_kind};
 ghost use Rattle.replayer.specs.Memory.{performed, agrees as agrees_with};
-ghost use Rattle.entries.specs.Reading.{stop};
+ghost use Rattle.entries.specs.Reading.{numbered};
 ghost use Rattle.scheduler.specs.Laws.Columns.{all_done_of};
 ghost use Rattle.scheduler.specs.Finish.{left_over, finish_of};
 ghost use Rattle.playback.specs.Shown.{shown_play, finished_call};
@@ -11,14 +11,14 @@ ghost use Rattle.scheduler.specs.Laws.Finish.{Playing};
 use codec::Op;
 use codec::cell::op_cell;
 use codec::kind::access_kind;
-use codec::limit::{TASKS, least};
-use codec::number::{DIFFERS, UNSOUND};
+use codec::limit::TASKS;
+use codec::number::Reason;
 use entries::Checked;
 use pending::Run;
 use pending::sound::sound;
 use replayer::stepping::{agrees, perform, record_at};
 use scheduler::columns::columns_of;
-use scheduler::lowest::{NextStep, lowest};
+use scheduler::lowest::{Chosen, lowest};
 
 // Whether a run has finished; 17 and false if it is not sound.
 #[derive(Clone, Copy)]
@@ -46,7 +46,7 @@ fn result_of(
     number: u32,
     offset: usize,
 ) -> Played
-    ensures { result ≡ record { tasks = tasks; objects = objects; steps = steps; finished = finished; stopped = stop number offset } }
+    ensures { result ≡ record { tasks = tasks; objects = objects; steps = steps; finished = finished; stopped = numbered number offset } }
 {
     Played {
         tasks,
@@ -93,7 +93,7 @@ pub(crate) fn finish(run: Run, bytes: &[u8], memory: &mut [u32]) -> Played
     let mut steps: usize = 0;
     let write = access_kind(run.fields, true);
     loop {
-        let n = lowest(
+        let going = lowest(
             run.tasks,
             run.objects,
             run.fields,
@@ -105,14 +105,21 @@ pub(crate) fn finish(run: Run, bytes: &[u8], memory: &mut [u32]) -> Played
             &mut scans,
             &mut ats,
         );
-        let NextStep::Ready { task, op } = n else {
+        let Some(Chosen { task, op }) = going else {
             let done = all_done(run.tasks, &dones, &counts);
             return result_of(run.tasks, run.objects, steps, done, 0, 0);
         };
         let cell = op_cell(run.fields, op);
         if !taken(write, op, cell, memory) {
             let at = record_at(op, places[task]);
-            return result_of(run.tasks, run.objects, steps, false, DIFFERS, at);
+            return result_of(
+                run.tasks,
+                run.objects,
+                steps,
+                false,
+                Reason::Differs.number(),
+                at,
+            );
         }
         steps += 1;
     }
@@ -122,7 +129,7 @@ pub(crate) fn finish(run: Run, bytes: &[u8], memory: &mut [u32]) -> Played
 fn all_done(tasks: usize, dones: &[usize; TASKS], counts: &[usize; TASKS]) -> bool
     ensures { result ≡ all_done_of tasks dones.now counts.now }
 {
-    let few = least(tasks, TASKS);
+    let few = tasks.min(TASKS);
     for t in 0..few {
         if dones[t] < counts[t] {
             return false;
@@ -137,7 +144,7 @@ pub fn finished(run: Run, bytes: &[u8]) -> Completion
 {
     if !sound(run, bytes.len()) {
         return Completion {
-            number: UNSOUND,
+            number: Reason::Unsound.number(),
             finished: false,
         };
     }

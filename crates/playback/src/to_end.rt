@@ -1,14 +1,15 @@
 // A recording played to its end in one call: opened, then the lowest ready task is stepped until a step is not taken.
-ghost use Rattle.std.specs.Prelude.{◌≡◌, length};
+ghost use Rattle.std.specs.Prelude.{Ok, ◌≡◌, length};
 ghost use Rattle.codec.specs.Cell.{cells_of};
 ghost use Rattle.reader.specs.Layout.{layout_of};
 ghost use Rattle.reader.specs.Parse.{parse};
 ghost use Rattle.playback.specs.Shown.{shown_play};
+ghost use Rattle.codec.specs.Reason.{number_of};
 ghost use Rattle.playback.specs.ToEnd.{play_of, refused_end, to_end_of};
 
 use crate::finish::{Played, finish};
 use codec::cell::cells_of;
-use codec::number::ENTRIES;
+use codec::number::Reason;
 use entries::Checked;
 use reader::head::set_starting;
 use reader::layout::{Layout, locate};
@@ -24,11 +25,11 @@ pub struct Replayed {
     pub stopped: Checked,
 }
 
-fn refused(number: u32, offset: usize) -> Replayed
-    ensures { result ≡ refused_end number offset }
+fn refused(reason: Reason, offset: usize) -> Replayed
+    ensures { result ≡ refused_end (number_of reason) offset }
 {
     Replayed {
-        number,
+        number: reason.number(),
         offset,
         steps: 0,
         finished: false,
@@ -41,7 +42,7 @@ fn refused(number: u32, offset: usize) -> Replayed
 
 // Plays a checked recording from its opening to where it ends.
 pub(crate) fn play(bytes: &[u8], l: Layout, memory: &mut [u32]) -> Played
-    requires { (l ≡ layout_of (parse bytes.now)) × (l.number ≡ 0) × (length memory.old ≡ cells_of l.fields l.objects) }
+    requires { (Ok l ≡ layout_of (parse bytes.now)) × (length memory.old ≡ cells_of l.fields l.objects) }
     ensures value { result ≡ shown_play bytes.now (play_of bytes.now memory.old) }
     ensures memory_after { memory.new ≡ (play_of bytes.now memory.old).memory }
 {
@@ -55,12 +56,12 @@ pub fn replay_to_end(bytes: &[u8], memory: &mut [u32]) -> Replayed
     ensures value { result ≡ (to_end_of bytes.now memory.old).answer }
     ensures memory_after { memory.new ≡ (to_end_of bytes.now memory.old).memory }
 {
-    let l = locate(bytes);
-    if l.number != 0 {
-        return refused(l.number, l.offset);
-    }
+    let l = match locate(bytes) {
+        Ok(l) => l,
+        Err(refusal) => return refused(refusal.reason, refusal.offset),
+    };
     if memory.len() != cells_of(l.fields, l.objects) {
-        return refused(ENTRIES, 0);
+        return refused(Reason::Entries, 0);
     }
     let p = play(bytes, l, memory);
     let stopped = p.stopped;

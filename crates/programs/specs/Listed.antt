@@ -1,7 +1,7 @@
 -- RECORD AND SHOW: what `show` writes for a recording that `record` made from a text (document 02, F-3): the lines of the recording of the
 -- calls that the text asks for, in which each read has the value that it answered; and last how many records there are (F-5): the head, a
 -- section for each task, the orderings written and the accesses accepted.
-use Rattle.std.specs.Prelude.{false, List, ◌++◌, map, ◌≡◌, ℕ, length}
+use Rattle.std.specs.Prelude.{None, List, ◌++◌, map, ◌≡◌, ℕ, length}
 use Rattle.faults.specs.Reading.{text_sizes}
 use Rattle.fidelity.specs.Box.{Opening, Asked, recorded, recording_by}
 use Rattle.fidelity.specs.Counted.{written}
@@ -17,4 +17,4 @@ pub record Listed (text : List ℕ) : Type 0 where
   pub asked : List Asked
   pub asks : map wanted_by asked ≡ map (wanted_in (text_sizes text).named) (access_lines text)
   pub recorded_each : length (recorded opening asked) ≡ length (access_lines text)
-  pub is : text_of false 0 (record_of text).bytes ≡ recording_lines (recording_by opening asked) ++ records_line (written opening asked)
+  pub is : text_of None (record_of text).bytes ≡ recording_lines (recording_by opening asked) ++ records_line (written opening asked)

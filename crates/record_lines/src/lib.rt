@@ -115,7 +115,6 @@ pub fn put_line(out: &mut [u8], end: usize, p: Place, r: Record) -> usize
         } => put_section(out, end, p.at, task, accesses, size),
         Record::Ordering(q) => put_ordering(out, end, p.at, p.own, q),
         Record::Access(o) => put_access(out, end, p.at, p.own, p.number, o),
-        Record::Refused(_) => end,
     }
 }
 

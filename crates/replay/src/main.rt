@@ -2,56 +2,15 @@
 // line for each step. Options pause it or give another order.
 #![tactic(auto)]
 
-use input::complain;
-use options::with_pause;
+use input::{Program, complain};
+use options::{Pause, with_pause};
 use waits::MOST_WAITS;
 
-// Writes the answer and what there is to say about it.
-fn put(rt: HostRuntime, text: &[u8], reasons: &[u8]) {
-    if rt.stdout().write_all(text).is_err() {
-        complain(rt, b"replay: could not write all of the answer\n");
-    }
-    complain(rt, reasons);
-}
-
-// Plays it to its end.
-fn play(rt: HostRuntime, bytes: &[u8]) {
-    let mut out = transcript::space();
-    let mut why = [0u8; MOST_WAITS];
-    let told = transcript::tell(bytes, &mut out, &mut why);
-    let text = told.text;
-    let reasons = told.reasons;
-    put(rt, &out[..text], &why[..reasons]);
-}
-
-// Plays the steps that the options ask for. It is called from two places, so that its buffers do not become part of the frame of `main`,
-// which every start pays for.
-fn play_asked(
-    rt: HostRuntime,
-    bytes: &[u8],
-    most: usize,
-    counts: &[u32],
-    ordered: bool,
-    order: &[u8],
-) {
-    let mut out = pause::space();
-    let mut why = [0u8; MOST_WAITS];
-    let told = pause::tell(bytes, most, counts, ordered, order, &mut out, &mut why);
-    let text = told.text;
-    let reasons = told.reasons;
-    put(rt, &out[..text], &why[..reasons]);
-}
-
-// Reads one byte more than a recording and an order may have, and one count more than there can be tasks, to notice what is too long.
-fn main(rt: HostRuntime) {
-    let mut bytes = [0u8; 65537];
-    let mut counts = [0u32; 17];
-    let mut order = [0u8; 65537];
-    let asked = with_pause(
-        rt,
-        b"replay",
-        b"a recording",
-        b"Plays a recording, always the lowest ready task next.
+const PROGRAM: Program = Program {
+    name: b"replay",
+    options: b" [--steps N] [--done N0 N1 ...] [--order FILE]",
+    expected: b"a recording",
+    help: b"Plays a recording, always the lowest ready task next.
 
 Reads FILE; with no FILE, or with -, standard input. A recording has at most 65,536 bytes; more give: long.
 
@@ -76,21 +35,48 @@ if it was stopped, and what could not be read or written.
 
 There is no exit status: look at what was written.
 ",
-        &mut bytes,
-        &mut counts,
-        &mut order,
-    );
-    if !asked.read {
+};
+
+// Writes the answer and what there is to say about it.
+fn put(rt: HostRuntime, text: &[u8], reasons: &[u8]) {
+    if rt.stdout().write_all(text).is_err() {
+        complain(rt, b"replay: could not write all of the answer\n");
+    }
+    complain(rt, reasons);
+}
+
+// Plays it to its end.
+fn play(rt: HostRuntime, bytes: &[u8]) {
+    let mut out = transcript::space();
+    let mut why = [0u8; MOST_WAITS];
+    let told = transcript::tell(bytes, &mut out, &mut why);
+    put(rt, &out[..told.text], &why[..told.reasons]);
+}
+
+// Plays the steps that the options ask for. Its buffers must not become part of the frame of `main`, which every start pays for.
+#[inline(never)]
+fn play_asked(rt: HostRuntime, bytes: &[u8], asked: Pause) {
+    let mut out = pause::space();
+    let mut why = [0u8; MOST_WAITS];
+    let Pause {
+        most,
+        counts,
+        order,
+    } = asked;
+    let told = pause::tell(bytes, most, counts, order, &mut out, &mut why);
+    put(rt, &out[..told.text], &why[..told.reasons]);
+}
+
+// Reads one byte more than a recording and an order may have, and one count more than there can be tasks, to notice what is too long.
+fn main(rt: HostRuntime) {
+    let mut bytes = [0u8; 65537];
+    let mut counts = [0u32; 17];
+    let mut order = [0u8; 65537];
+    let Some(asked) = with_pause(rt, PROGRAM, &mut bytes, &mut counts, &mut order) else {
         return;
+    };
+    match asked.pause {
+        Some(pause) => play_asked(rt, asked.bytes, pause),
+        None => play(rt, asked.bytes),
     }
-    let n = asked.count;
-    if !asked.asked {
-        return play(rt, &bytes[..n]);
-    }
-    let k = asked.counts;
-    if !asked.ordered {
-        return play_asked(rt, &bytes[..n], asked.most, &counts[..k], false, b"");
-    }
-    let m = asked.order;
-    play_asked(rt, &bytes[..n], asked.most, &counts[..k], true, &order[..m])
 }

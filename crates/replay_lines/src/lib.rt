@@ -10,7 +10,7 @@ ghost use Rattle.replay_lines.specs.Lines.{letter_of, object_of, line_of, end_li
 
 use codec::kind::{has_field, reads};
 use replayer::Stepped;
-use text::{put_byte, put_bytes, put_field, put_number};
+use text::{filled, put_byte, put_bytes, put_field, put_number};
 
 pub mod block;
 
@@ -41,7 +41,7 @@ pub fn silent() -> Written
 pub fn blank_order() -> [u8; MOST_STEPS]
     ensures { Zeros most_steps result }
 {
-    [0u8; MOST_STEPS]
+    filled(0)
 }
 
 // The letter of an access: R for a read, else W.

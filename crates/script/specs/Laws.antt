@@ -2,6 +2,7 @@
 pub mod AnswerCode
 pub mod Front
 pub mod MessageCode
+pub mod NeededLine
 pub mod OpenSized
 pub mod OpenedAs
 pub mod OpenedCode

@@ -1,16 +1,14 @@
 // The show program (document 02, F-3): lists the records of a recording from a file or standard input.
 #![tactic(auto)]
 
+use input::{Program, complain, with_task};
 use listing::{space, tell};
 
-// Reads one byte more than a recording may have, to notice a longer one.
-fn main(rt: HostRuntime) {
-    let mut bytes = [0u8; 65537];
-    let asked = input::with_task(
-        rt,
-        b"show",
-        b"a recording",
-        b"Lists the records of a recording, one a line, in the order of the file. Nothing is played.
+const PROGRAM: Program = Program {
+    name: b"show",
+    options: b" [--task TASK]",
+    expected: b"a recording",
+    help: b"Lists the records of a recording, one a line, in the order of the file. Nothing is played.
 
 Reads FILE; with no FILE, or with -, standard input. A recording has at most 65,536 bytes; more give: long.
 With --task TASK it lists only the section of that task.
@@ -33,15 +31,17 @@ Writes to standard error what could not be read or written.
 
 There is no exit status: look at what was written.
 ",
-        &mut bytes,
-    );
-    if !asked.read {
+};
+
+// Reads one byte more than a recording may have, to notice a longer one.
+fn main(rt: HostRuntime) {
+    let mut bytes = [0u8; 65537];
+    let Some(chosen) = with_task(rt, PROGRAM, &mut bytes) else {
         return;
-    }
-    let n = asked.count;
+    };
     let mut out = space();
-    let text = tell(&bytes[..n], asked.one, asked.task, &mut out);
+    let text = tell(chosen.bytes, chosen.task, &mut out);
     if rt.stdout().write_all(&out[..text]).is_err() {
-        input::complain(rt, b"show: could not write all of the list\n");
+        complain(rt, b"show: could not write all of the list\n");
     }
 }

@@ -5,6 +5,14 @@
 ghost use Rattle.std.specs.Prelude.{[], ◌∷◌, ◌+◌, ◌<◌, ◌≤◌, length};
 ghost use Rattle.text.specs.Appended.{Appended};
 ghost use Rattle.text.specs.Decimal.{decimal_of, field_of};
+ghost use Rattle.text.specs.Zeros.{Filled};
+
+// A buffer of any type and length. A call of it, because a slice whose length is a large number in the code takes much longer to prove.
+pub fn filled<T: Copy, const N: usize>(value: T) -> [T; N]
+    ensures { Filled N value result }
+{
+    [value; N]
+}
 
 pub fn put_byte(out: &mut [u8], at: usize, byte: u8) -> usize
     requires { at < length out.old }

@@ -18,9 +18,9 @@ pub mod table;
 pub fn blank() -> State
     ensures { result ≡ blank_state }
 {
-    let locality = Locality::WriteExclusive(0);
-    let record = CellRecord { locality };
-    let last = Position { task: 0, number: 0 };
+    let record = CellRecord {
+        locality: Locality::WriteExclusive(0),
+    };
     State {
         tasks: 0,
         objects: 0,
@@ -30,25 +30,22 @@ pub fn blank() -> State
         seen: [0u32; TASKS],
         took: [0u16; TASKS],
         shares: 0,
-        last,
+        last: Position { task: 0, number: 0 },
     }
 }
 
-pub fn counters_of(state: State) -> Counters
-    ensures { result ≡ counters_of state }
+// All of a state but its cells' records.
+pub fn counters_of(state: &State) -> Counters
+    ensures { result ≡ counters_of state.now }
 {
-    let done = state.done;
-    let seen = state.seen;
-    let took = state.took;
-    let last = state.last;
     Counters {
         tasks: state.tasks,
         objects: state.objects,
         fields: state.fields,
-        done,
-        seen,
-        took,
+        done: state.done,
+        seen: state.seen,
+        took: state.took,
         shares: state.shares,
-        last,
+        last: state.last,
     }
 }

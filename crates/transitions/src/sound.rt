@@ -1,15 +1,15 @@
-// The soundness test of a recording state: everything except the cells' records in one pass over the tasks, and one record. The calls
-// loop over the records themselves, because a function that takes them would be given a copy.
+// The soundness test of a recording state.
 ghost use Rattle.std.specs.Prelude.{◌≡◌, ◌≤◌, min};
 ghost use Rattle.codec.specs.Cell.{cells_of};
 ghost use Rattle.codec.specs.Limit.{max_tasks, max_cells};
 ghost use Rattle.tracker.specs.Laws.Scan.{counters_sound};
-ghost use Rattle.tracker.specs.Sound.{last_sound, task_sound, tasks_sound, cell_sound};
+ghost use Rattle.tracker.specs.Sound.{last_sound, task_sound, tasks_sound, cell_sound, sound_of};
 
+use crate::counters_of;
 use codec::Position;
 use codec::cell::cells_of;
-use codec::limit::{CELLS, FIELDS, OBJECTS, TASKS, least, within};
-use tracker::{Counters, Locality};
+use codec::limit::{CELLS, FIELDS, OBJECTS, TASKS, within};
+use tracker::{Counters, Locality, State};
 
 // There is no Last and then no share, or Last's task has made that access.
 fn last_sound(last: Position, tasks: u16, shares: u32, done: [u16; TASKS]) -> bool
@@ -34,7 +34,7 @@ fn task_sound(done: u16, seen: u32, took: u16, shares: u32) -> bool
 }
 
 // A holder is a task, and a share number is 1 to G.
-pub fn cell_sound(locality: Locality, tasks: u16, shares: u32) -> bool
+fn cell_sound(locality: Locality, tasks: u16, shares: u32) -> bool
     ensures { result ≡ cell_sound locality tasks shares }
 {
     match locality {
@@ -55,21 +55,18 @@ fn tasks_sound(
     requires { tasks ≤ max_tasks }
     ensures { result ≡ tasks_sound tasks shares done seen took }
 {
-    let n = tasks as usize;
     let mut sum: u32 = 0;
-    let mut i: usize = 0;
-    while i < n {
-        if !task_sound(done[i], seen[i], took[i], shares) {
+    for t in 0..tasks as usize {
+        if !task_sound(done[t], seen[t], took[t], shares) {
             return false;
         }
-        sum += done[i] as u32;
-        i += 1;
+        sum += done[t] as u32;
     }
     shares <= sum
 }
 
 // Everything except the cells: T, N and F, Last, each task.
-pub fn counters_sound(counters: Counters) -> bool
+fn counters_sound(counters: Counters) -> bool
     ensures { result ≡ counters_sound counters }
 {
     let tasks = counters.tasks;
@@ -94,8 +91,25 @@ pub fn counters_sound(counters: Counters) -> bool
 }
 
 // The number of cells that have a record; an unsound state may name more.
-pub fn cells_in(objects: u16, fields: u16) -> usize
+fn cells_in(objects: u16, fields: u16) -> usize
     ensures { result ≡ min (cells_of fields objects) max_cells }
 {
-    least(cells_of(fields as usize, objects as usize), CELLS)
+    cells_of(fields as usize, objects as usize).min(CELLS)
+}
+
+// Whether a recording state is sound; if not, the number is 17. The state is lent: it would be copied for each call that took it.
+pub fn sound(state: &State) -> bool
+    ensures { result ≡ sound_of state.now }
+{
+    let counters = counters_of(state);
+    if !counters_sound(counters) {
+        return false;
+    }
+    let cells = cells_in(counters.objects, counters.fields);
+    for record in &state.cells[..cells] {
+        if !cell_sound(record.locality, counters.tasks, counters.shares) {
+            return false;
+        }
+    }
+    true
 }

@@ -16,7 +16,7 @@ use codec::number::NO_ORDER;
 use playability::playable_settled;
 use playability::settle::settle;
 use replay_lines::{LONGEST, Written, blank_order, put_refusal, silent};
-use text::{put_bytes, put_field};
+use text::{filled, put_bytes, put_field};
 use waits::{MOST_WAITS, put_waits};
 
 // The most bytes that a text can have.
@@ -26,7 +26,7 @@ pub const MOST: usize = 32776;
 pub fn space() -> [u8; MOST]
     ensures { Zeros most result }
 {
-    [0u8; MOST]
+    filled(0)
 }
 
 // A line for each step.

@@ -1,70 +1,46 @@
-use mathlib.Core.Bool.{true≢false}
-use mathlib.Core.Path.{◌≡◌, refl, sym, ◌∙◌}
-use Prim.Native.Nat.{◌≤◌, ◌-◌, ◌+◌}
-use native.Mathlib.Omega.{arith}
-use borrow.Author.Tests.{not-true, not-false}
-use lib.ListN.{length}
-use Rattle.lines.specs.Laws.Found.{found_from}
-use Rattle.lines.specs.Lines.{lines_from, line_behind}
+use Rattle.std.proofs.Common.{arith, rules, ap, ◌∙◌, sym, ◌≡◌, ◌<◌, ◌+◌, ◌-◌, ℕ, List, length, take, drop, length-drop, length-take-le}
+use borrow.Author.Tests.{tests}
+use Rattle.lines.specs.Bytes.{index_of}
+use Rattle.lines.specs.Laws.Bytes.{index_within}
 use Rattle.lines.specs.Laws.Lines.{line-held, line-passed, line-counted, lines_none}
 use Rattle.lines.proofs.next_line.Goals as goal
 
-pub loop-from-init : goal.loop-from-init
-loop-from-init c = (omega arith, omega arith, omega arith, refl, refl)
-
-pub find-to-requires : goal.find-to-requires
-find-to-requires c = (omega arith, omega arith)
-
-pub slice_bounds-is_passed-count : goal.slice_bounds-is_passed-count
-slice_bounds-is_passed-count c = omega (arith, c.find-to.ensures.value)
-
-pub slice_bounds-is_passed-start : goal.slice_bounds-is_passed-start
-slice_bounds-is_passed-start c = omega (arith, c.find-to.ensures.value)
-
-pub slice_bounds-is_passed-end : goal.slice_bounds-is_passed-end
-slice_bounds-is_passed-end c = omega (arith, c.find-to.ensures.bound)
+-- the rest behind a first line
+cut : (text line rest : List ℕ) → line ≡ take (index_of 10 text) text → rest ≡ drop (length line + 1) text
+    → (length line ≡ index_of 10 text) × (rest ≡ drop (index_of 10 text + 1) text) × (length rest ≡ length text - (length line + 1))
+cut text line rest e g =
+    let n : length line ≡ index_of 10 text = ap length e ∙ length-take-le (index_of 10 text) text (index_within 10 text) in
+    (n, g ∙ ap (λ (i : ℕ). drop (i + 1) text) n, ap length g ∙ length-drop (length line + 1) text)
 
 pub returns-then-not-is_passed : goal.returns-then-not-is_passed
-returns-then-not-is_passed c = let t = c.args.text.now in let l = c.loop-from in let f = c.find-to in
-    let e = found_from 10 l.from f.result t f.ensures.value in
-    let p = sym c.is_passed.ensures ∙ c.if-not-is_passed.true in
+returns-then-not-is_passed c =
+    let l = c.loop-left in let t = l.left.now in
+    let h : 0 < length t = search (rules, tests) in
+    let k = cut t c.before-line.result.now c.behind-rest.result.now c.before-line.ensures c.behind-rest.ensures in
+    let i = index_within 10 t in
     record {
-      found = λ _. sym l.invariant.3 ∙ line-held t l.from l.number f.result c.loop-from-test.true e p;
-      kept = λ _. line-counted t l.from l.number f.result c.loop-from-test.true e ∙ l.invariant.4;
-      none = λ z. absurd (true≢false z);
-      last = λ z. absurd (true≢false z);
-      ordered = omega (arith, e);
-      within = omega (arith, f.ensures.bound);
-      on = λ _. omega (arith, e);
-      counted = λ _. omega (arith, e);
+      found = sym l.invariant.same ∙ line-held t _ _ l.number h c.before-line.ensures k.1 (sym c.if-not-is_passed.ensures);
+      kept = line-counted t _ _ l.number h c.before-line.ensures k.1 ∙ l.invariant.behind;
+      within = omega (arith, k.0, k.2, i, h, l.invariant.within);
+      shorter = omega (arith, k.0, k.2, i, h, l.invariant.within);
+      counted = omega (arith, k.0, k.2, i, h, l.invariant.counted);
     }
 
-pub overflow_add-from : goal.overflow_add-from
-overflow_add-from c = omega (arith, c.find-to.ensures.bound)
-
-pub loop-from-smaller : goal.loop-from-smaller
-loop-from-smaller c = omega (arith, c.find-to.ensures.value, c.find-to.ensures.bound)
-
-pub loop-from-preserved : goal.loop-from-preserved
-loop-from-preserved c = let t = c.args.text.now in let l = c.loop-from in let f = c.find-to in
-    let e = found_from 10 l.from f.result t f.ensures.value in
-    let p = sym c.is_passed.ensures ∙ c.if-not-is_passed.false in (
-      omega (arith, f.ensures.bound),
-      omega (arith, e),
-      omega (arith, e),
-      sym (line-passed t l.from l.number f.result c.loop-from-test.true e p) ∙ l.invariant.3,
-      line-counted t l.from l.number f.result c.loop-from-test.true e ∙ l.invariant.4,
-    )
+pub loop-left-preserved : goal.loop-left-preserved
+loop-left-preserved c =
+    let l = c.loop-left in let t = l.left.now in
+    let h : 0 < length t = search (rules, tests) in
+    let k = cut t c.before-line.result.now c.behind-rest.result.now c.before-line.ensures c.behind-rest.ensures in
+    record {
+      within = omega (arith, k.2, l.invariant.within);
+      counted = omega (arith, k.2, h, l.invariant.counted);
+      same = sym (line-passed t _ _ l.number h c.before-line.ensures k.1 (sym c.if-not-is_passed.ensures)) ∙ l.invariant.same;
+      behind = line-counted t _ _ l.number h c.before-line.ensures k.1 ∙ l.invariant.behind;
+    }
 
 pub returns : goal.returns
-returns c = let t = c.args.text.now in let l = c.loop-from in let z = lines_none l.number l.from t (omega arith) in
-    record {
-      found = λ z. absurd (true≢false (sym z));
-      kept = λ z. absurd (true≢false (sym z));
-      none = λ _. sym l.invariant.3 ∙ z.0;
-      last = λ _. z.1 ∙ l.invariant.4;
-      ordered = omega arith;
-      within = omega arith;
-      on = λ h. h;
-      counted = λ z. absurd (true≢false (sym z));
-    }
+returns c =
+    let l = c.loop-left in
+    let h : length l.left.now ≡ 0 = search (rules, tests) in
+    let z = lines_none l.number l.left.now h in
+    (sym l.invariant.same ∙ z.0, z.1 ∙ l.invariant.behind)

@@ -1,8 +1,8 @@
 -- Laws of `Lines`.
-use Rattle.std.specs.Prelude.{◌≡◌, refl, Bool, true, false, cond, List, [], ◌∷◌, ℕ, ◌+◌, ◌-◌, ◌<◌, ◌≤◌, eqb, ltb, length, take, drop}
-use Rattle.std.proofs.Common.{add-one, arith, ltb-true, ltb-false, length-drop, drop_of_length-le, drop-cons, drop-drop}
-use Rattle.lines.specs.Bytes.{index_after, index_of}
+use Rattle.std.specs.Prelude.{◌≡◌, refl, Bool, true, false, cond, List, [], ◌∷◌, ℕ, ◌+◌, ◌<◌, ◌≤◌, eqb, ltb, length, take, drop}
+use Rattle.std.proofs.Common.{◌∙◌, add-one, arith, ltb-true, ltb-false, drop_of_length-le, drop-cons}
 use Rattle.codec.specs.Laws.Decide.{passes, fails, split}
+use Rattle.lines.specs.Bytes.{index_after, index_of}
 use Rattle.lines.specs.Words.{front}
 use Rattle.lines.specs.Lines.{lines_of, is_passed, numbered, lines_from, line_behind}
 
@@ -34,35 +34,27 @@ behind-from at l = elim (split (ltb at (length l))) [
   | fails p ↦ let k : length l ≤ at = ltb-false _ _ p in rw (drop_of_length-le l k, drop_of_length-le {A = ℕ} l {i = at + 1} (omega arith))
 ]
 
-first-line : (l : List ℕ) → 0 < length l → lines_of l ≡ take (index_of 10 l) l ∷ behind (drop (index_of 10 l) l)
-first-line [] h = absurd (let z : ⊥ = omega arith in z)
-first-line (b ∷ bs) h = line_first b bs
+-- a text's first line, and the text behind it
+module _ (text line rest : List ℕ) (n : ℕ) (h : 0 < length text) (e : line ≡ take (index_of 10 text) text) (g : rest ≡ drop (index_of 10 text + 1) text) where
+  lines-first : lines_of text ≡ line ∷ lines_of rest
+  lines-first = first text h ∙ rw (e, g, behind-from (index_of 10 text) text)
+    where
+      first : (l : List ℕ) → 0 < length l → lines_of l ≡ take (index_of 10 l) l ∷ behind (drop (index_of 10 l) l)
+      first [] k = absurd (let z : ⊥ = omega arith in z)
+      first (b ∷ bs) k = line_first b bs
 
--- the next line, and the lines after it
-pub next-bytes : (at : ℕ) (l : List ℕ) → at < length l
-    → lines_of (drop at l) ≡ take (index_of 10 (drop at l)) (drop at l) ∷ lines_of (drop (at + index_of 10 (drop at l) + 1) l)
-next-bytes at l h =
-    rw (← behind-from (at + index_of 10 (drop at l)) l, ← drop-drop (index_of 10 (drop at l)) at l) (first-line (drop at l) (rw length-drop (omega arith)))
-
--- the line at an offset, with its end found
-module _ (text : List ℕ) (at n end : ℕ) (h : at < length text) (e : end ≡ at + index_of 10 (drop at text)) where
-  line-bytes : lines_of (drop at text) ≡ take (end - at) (drop at text) ∷ lines_of (drop (end + 1) text)
-  line-bytes =
-      let k : end - at ≡ index_of 10 (drop at text) = omega arith in
-      rw (k, e) (next-bytes at text h)
-
-  pub line-held : is_passed (take (end - at) (drop at text)) ≡ false
-      → lines_from n at text ≡ record { number = n; bytes = take (end - at) (drop at text) } ∷ lines_from (n + 1) (end + 1) text
+  pub line-held : is_passed line ≡ false → lines_from n text ≡ record { number = n; bytes = line } ∷ lines_from (n + 1) rest
   unfolding numbered
-  line-held p = rw (line-bytes, p)
+  line-held p = rw (lines-first, p)
 
-  pub line-passed : is_passed (take (end - at) (drop at text)) ≡ true → lines_from n at text ≡ lines_from (n + 1) (end + 1) text
+  pub line-passed : is_passed line ≡ true → lines_from n text ≡ lines_from (n + 1) rest
   unfolding numbered
-  line-passed p = rw (line-bytes, p)
+  line-passed p = rw (lines-first, p)
 
-  pub line-counted : line_behind (n + 1) (end + 1) text ≡ line_behind n at text
-  line-counted = rw line-bytes (omega arith)
+  pub line-counted : line_behind (n + 1) rest ≡ line_behind n text
+  line-counted = rw lines-first (omega arith)
 
-pub lines_none : (n at : ℕ) (text : List ℕ) → length text ≤ at → (lines_from n at text ≡ []) × (n ≡ line_behind n at text)
+pub lines_none : (n : ℕ) (text : List ℕ) → length text ≡ 0 → (lines_from n text ≡ []) × (n ≡ line_behind n text)
 unfolding numbered lines_of
-lines_none n at text h = rw (drop_of_length-le text h) (refl, (omega arith))
+lines_none n [] h = (refl, omega arith)
+lines_none n (b ∷ bs) h = absurd (let z : ⊥ = omega arith in z)

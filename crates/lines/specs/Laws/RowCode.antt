@@ -1,65 +1,88 @@
 -- A row of fields as the code reads it.
-use Rattle.std.specs.Prelude.{◌≡◌, refl, true, false, List, [], ◌∷◌, ◌++◌, map, ℕ, zero, suc, ◌+◌, ◌<◌, ◌≤◌, eqb, ltb, length, get_or, take, drop, set}
-use Rattle.std.proofs.Common.{ap, add-one, arith, ltb-true, eqb-true, eq-eqb, take-suc, take-suc-set}
+use Rattle.std.specs.Prelude.{◌≡◌, refl, Bool, true, false, not, List, [], ◌∷◌, map, ℕ, suc, ◌+◌, ◌-◌, ◌<◌, ◌≤◌, eqb, length, take, drop, set, Option, Some, None, is_some}
+use Rattle.std.proofs.Common.{true≢false, ap, ◌∙◌, sym, add-one, arith, eqb-true, eq-eqb, ne_eqb, length-drop, take_all, take-suc-set}
+use Rattle.std.proofs.Math.Bool.{and-false}
+use Rattle.std.proofs.lemmas.List.{map-append}
 use Rattle.std.proofs.Math.ListN.{get_or-append}
+use Rattle.std.proofs.lemmas.List.Edits.{sets, sets-eq}
 use Rattle.codec.specs.Laws.Decide.{both_pass}
-use Rattle.codec.specs.Store.{store}
-use Rattle.codec.specs.Laws.Store.{store_split, store-front}
-use Rattle.reader.specs.Parse.{all_below}
-use Rattle.lines.specs.Number.{none}
-use Rattle.lines.specs.Rows.{is_row, no_sizes, sizes_of}
+use Rattle.lines.specs.declared.field.Field.{Field}
+use Rattle.lines.specs.declared.field.Field.TheVariants.{Other}
+use Rattle.lines.specs.Asked.{word_at}
+use Rattle.lines.specs.Field.{numeral_of, value_of}
+use Rattle.lines.specs.Fields.{field_of}
+use Rattle.lines.specs.Laws.FieldsCode.{fields_in, cut}
+use Rattle.lines.specs.Rows.{all_numbers, is_row, values_of}
+use Rattle.lines.specs.Words.{words_in, NextWord}
+use Rattle.lines.specs.declared.words.Word.{Word}
 
 -- a row that holds a list from its start
-pub row-take : (row xs : List ℕ) → length xs ≤ length row → take (length xs) (store row 0 xs) ≡ xs
-row-take row xs h = store-front row xs (length xs) refl h
+pub row_at : (row xs : List Field) (i : ℕ) → length xs ≤ length row → i < length xs → word_at (sets row 0 xs) i ≡ word_at xs i
+row_at row xs i h k = rw (sets-eq xs row 0 (omega arith)) (get_or-append xs (drop (0 + length xs) row) Other i k)
 
-pub row_at : (row xs : List ℕ) (i : ℕ) → length xs ≤ length row → i < length xs → get_or (store row 0 xs) i 0 ≡ get_or xs i 0
-row_at row xs i h k = rw (store_split row 0 xs (omega arith)) (get_or-append xs (drop (0 + length xs) row) 0 i k)
-
--- every element below a number
-pub below_at : (n : ℕ) (l : List ℕ) → all_below n l ≡ true → (i : ℕ) → i < length l → get_or l i 0 < n
-unfolding all_below
-below_at n [] e i h = absurd (let z : ⊥ = omega arith in z)
-below_at n (x ∷ l) e zero h = ltb-true x n (both_pass (ltb x n) (all_below n l) e).0
-below_at n (x ∷ l) e (suc i) h = below_at n l (both_pass (ltb x n) (all_below n l) e).1 i (omega arith)
-
--- one more element of a list that is put into a row element by element
-pub map_on : (f : ℕ → ℕ) (xs row : List ℕ) (i : ℕ) → i < length xs → i < length row → take i row ≡ map f (take i xs)
-    → take (i + 1) (set row i (f (get_or xs i 0))) ≡ map f (take (i + 1) xs)
-map_on f xs row i h k e = rw (add-one, take-suc-set row i (f (get_or xs i 0)) k, take-suc xs i 0 h, e) (map_last (take i xs) (get_or xs i 0))
-  where
-    map_last : (ys : List ℕ) (y : ℕ) → map f ys ++ (f y ∷ []) ≡ map f (ys ++ (y ∷ []))
-    map_last [] y = refl
-    map_last (x ∷ ys) y = ap (λ (t : List ℕ). f x ∷ t) (map_last ys y)
-
--- the line has this many fields, and each is checked at its place in the row
-pub row-judged : (row f now : List ℕ) (n count : ℕ) → n ≡ length f → now ≡ store row 0 f → n ≡ count → count ≤ length row
-    → all_below none (take n now) ≡ is_row count f
+pub row_facts : (n : ℕ) (f : List Field) → is_row n f ≡ true → (length f ≡ n) × (all_numbers f ≡ true)
 unfolding is_row
-row-judged row f now n count e g h k = rw (g, e, row-take row f (omega arith), eq-eqb (length f) count (omega arith))
+row_facts n f e = let b = both_pass (eqb (length f) n) (all_numbers f) e in (eqb-true (length f) n b.0, b.1)
 
-pub row_facts : (n : ℕ) (f : List ℕ) → is_row n f ≡ true → (length f ≡ n) × (all_below none f ≡ true)
-unfolding is_row
-row_facts n f e = let b = both_pass (eqb (length f) n) (all_below none f) e in (eqb-true (length f) n b.0, b.1)
+-- of a line's fields this many have been read, each is a number, and the numbers are in a row
+pub record Rows (line rest : List ℕ) (count : ℕ) (now : List ℕ) : Type 0 where
+  pub within : count ≤ length (fields_in line)
+  pub left : drop count (fields_in line) ≡ fields_in rest
+  pub good : all_numbers (fields_in line) ≡ all_numbers (fields_in rest)
+  pub held : take count now ≡ values_of (take count (fields_in line))
 
--- the first line: two numbers, three, or neither
-pub sizes_two : (row f now : List ℕ) → now ≡ store row 0 f → is_row 2 f ≡ true → 2 ≤ length row
-    → record { good = true; tasks = get_or now 0 0; objects = get_or now 1 0; named = false; fields = 0 } ≡ sizes_of f
-unfolding sizes_of
-sizes_two row f now g e h =
-    let n = row_facts 2 f e in rw (g, e, row_at row f 0 (omega (arith, n.0)) (omega (arith, n.0)), row_at row f 1 (omega (arith, n.0)) (omega (arith, n.0)))
+pub rows_none : (line now : List ℕ) → Rows line line 0 now
+rows_none line now = record { within = omega arith; left = refl; good = refl; held = refl }
 
-pub sizes_three : (row f now : List ℕ) → now ≡ store row 0 f → is_row 2 f ≡ false → is_row 3 f ≡ true → 3 ≤ length row
-    → record { good = true; tasks = get_or now 0 0; objects = get_or now 1 0; named = true; fields = get_or now 2 0 } ≡ sizes_of f
-unfolding sizes_of
-sizes_three row f now g d e h =
-    let n = row_facts 3 f e in
-    rw (g, d, e, row_at row f 0 (omega (arith, n.0)) (omega (arith, n.0)), row_at row f 1 (omega (arith, n.0)) (omega (arith, n.0)), row_at row f 2 (omega (arith, n.0)) (omega (arith, n.0)))
+module _ {line rest : List ℕ} {count : ℕ} {now : List ℕ} (r : Rows line rest count now) where
+  rows-length : length (fields_in line) - count ≡ length (fields_in rest)
+  rows-length = sym (length-drop count (fields_in line)) ∙ ap length r.left
 
-pub sizes_none : (f : List ℕ) → is_row 2 f ≡ false → is_row 3 f ≡ false → no_sizes ≡ sizes_of f
-unfolding sizes_of
-sizes_none f d e = rw (d, e)
+  -- no word is left, too early or in time
+  pub rows-short : words_in rest ≡ [] → count < length now → is_row (length now) (fields_in line) ≡ false
+  unfolding is_row
+  rows-short e h =
+      let z : length (fields_in rest) ≡ 0 = rw e in
+      rw (ne_eqb (length (fields_in line)) (length now) (λ k. omega (arith, rows-length, r.within)))
 
--- the front of the row is the line's fields
-pub row-fields : (row f now : List ℕ) (n : ℕ) → now ≡ store row 0 f → is_row n f ≡ true → n ≤ length row → take n now ≡ f
-row-fields row f now n g e h = let k = row_facts n f e in rw (g, ← k.0) (row-take row f (omega (arith, k.0)))
+  pub rows-all : words_in rest ≡ [] → count ≡ length now → (is_row (length now) (fields_in line) ≡ true) × (now ≡ values_of (fields_in line))
+  unfolding is_row all_numbers
+  rows-all e h =
+      let z : length (fields_in rest) ≡ 0 = rw e in
+      let k : length (fields_in line) ≡ length now = omega (arith, rows-length, r.within) in
+      let g : all_numbers (fields_in line) ≡ true = r.good ∙ rw e in (
+        rw (eq-eqb (length (fields_in line)) (length now) k, g),
+        sym (take_all count now (omega arith)) ∙ r.held ∙ ap values_of (take_all count (fields_in line) (omega arith)),
+      )
+
+  -- a word more
+  module _ (word behind : List ℕ) (w : words_in rest ≡ word ∷ words_in behind) where
+    pub rows-long : count ≡ length now → is_row (length now) (fields_in line) ≡ false
+    unfolding is_row
+    rows-long h =
+        let z : length (fields_in rest) ≡ suc (length (fields_in behind)) = rw w in
+        rw (ne_eqb (length (fields_in line)) (length now) (λ k. omega (arith, rows-length)))
+
+    pub rows-bad : numeral_of (field_of word) ≡ None → is_row (length now) (fields_in line) ≡ false
+    unfolding is_row all_numbers
+    rows-bad e = rw (r.good, w, e) (and-false _)
+
+    pub rows-more : (n : ℕ) → count < length now → numeral_of (field_of word) ≡ Some n → Rows line behind (count + 1) (set now count n)
+    unfolding all_numbers
+    rows-more n h e =
+        let s = cut count (field_of word) (fields_in line) (fields_in behind) (r.left ∙ ap (map field_of) w) in
+        let v : value_of (field_of word) ≡ n = rw e in
+        record {
+          within = omega (arith, s.0);
+          left = s.2;
+          good = r.good ∙ rw (w, e);
+          held = rw (add-one, take-suc-set now count n h, r.held, ← add-one, s.1) (sym (map-append value_of (take count (fields_in line)) (field_of word ∷ []) ∙ rw v));
+        }
+
+  -- whether a word is left when the row is full
+  pub rows-told : (o : Option Word) (b : Bool) → NextWord rest o → is_some o ≡ not b → count ≡ length now
+      → (b ≡ is_row (length now) (fields_in line)) × (b ≡ true → now ≡ values_of (fields_in line))
+  rows-told None true n e h = let a = rows-all n h in (sym a.0, λ _. a.1)
+  rows-told None false n e h = absurd (true≢false (sym e))
+  rows-told (Some w) false n e h = (sym (rows-long w.bytes.now w.rest.now n.found h), λ z. absurd (true≢false (sym z)))
+  rows-told (Some w) true n e h = absurd (true≢false e)

@@ -1,9 +1,11 @@
 -- A line's words as the code finds them.
-use Rattle.std.specs.Prelude.{◌≡◌, refl, Bool, true, false, cond, not, List, [], ◌∷◌, ℕ, suc, ◌+◌, ◌-◌, ◌<◌, ◌≤◌, eqb, length, take, drop, get_or}
-use Rattle.std.proofs.Common.{ap, ◌∙◌, sym, add-one, arith, eqb-true, ne_eqb, length-drop, drop_of_length-le, drop-cons, drop-drop, length-take-le}
-use Rattle.std.proofs.lemmas.Bool.{eqb-false}
+use Rattle.std.specs.Prelude.{◌≡◌, refl, Bool, true, false, cond, not, List, [], ◌∷◌, ℕ, suc, ◌+◌, ◌<◌, ◌≤◌, ltb, length, take, drop, Option}
+use Rattle.std.proofs.Common.{ap, ◌∙◌, arith, ltb-false, length-take-le}
+use Rattle.std.specs.List.{position_or_len, position}
+use Rattle.std.specs.Option.{unwrap_or}
+use Rattle.std.proofs.lemmas.List.Recursion.{is_position_or_len}
 use Rattle.codec.specs.Laws.Decide.{passes, fails, split}
-use Rattle.lines.specs.Words.{is_blank, front, pieces_of, filled_of, words_in, NextWord}
+use Rattle.lines.specs.Words.{is_blank, front, pieces_of, filled_of, words_in}
 
 -- a byte that continues a run of blanks, or of other bytes
 abbrev pub in_run : Bool → ℕ → Bool
@@ -22,19 +24,20 @@ run-within t (b ∷ l) = elim (split (in_run t b)) [
   | fails p ↦ rw p (omega arith)
 ]
 
--- one more byte of a run that begins at an index, and the run's end
-module _ (t : Bool) (at : ℕ) (l : List ℕ) where
-  pub run_on : at < length l → in_run t (get_or l at 0) ≡ true → at + run_of t (drop at l) ≡ at + 1 + run_of t (drop (at + 1) l)
-  unfolding run_of
-  run_on h p = rw (drop-cons l at 0 h, p, add-one) (omega arith)
+-- a run ends at the first byte that does not continue it
+pub run_position : (t : Bool) (l : List ℕ) → run_of t l ≡ position_or_len (λ b. not (in_run t b)) l
+unfolding run_of
+run_position t l = is_position_or_len (run_of t) (λ b. not (in_run t b)) refl (λ x xs. turned (in_run t x) (run_of t xs)) l
+  where
+    turned : (b : Bool) (n : ℕ) → cond b (suc n) 0 ≡ cond (not b) 0 (1 + n)
+    turned true n = omega arith
+    turned false n = refl
 
-  pub run_off : at < length l → in_run t (get_or l at 0) ≡ false → at + run_of t (drop at l) ≡ at
-  unfolding run_of
-  run_off h p = rw (drop-cons l at 0 h, p) (omega arith)
-
-  pub run_none : length l ≤ at → at + run_of t (drop at l) ≡ at
-  unfolding run_of
-  run_none h = rw (drop_of_length-le l h) (omega arith)
+pub run_found : (t : Bool) (l : List ℕ) (r : Option ℕ) → r ≡ position (λ b. not (in_run t b)) l → unwrap_or r (length l) ≡ run_of t l
+run_found t l r e = rw (e, run_position t l) (elim (split (ltb (position_or_len (λ b. not (in_run t b)) l) (length l))) [
+  | passes p ↦ rw p
+  | fails p ↦ rw p (omega (arith, ltb-false _ _ p, run-within t l, run_position t l))
+])
 
 -- blanks before words
 skip : (l : List ℕ) → words_in l ≡ words_in (drop (run_of true l) l)
@@ -88,29 +91,11 @@ ended (b ∷ bs) h = elim (split (is_blank b)) [
   | fails p ↦ absurd (let z : suc (run_of false bs) ≡ 0 = simp p at h in omega arith)
 ]
 
-pub next_word : (l : List ℕ) (at from to : ℕ) → at ≤ length l → from ≡ at + run_of true (drop at l) → to ≡ from + run_of false (drop from l) → NextWord l at from to
-unfolding words_in pieces_of filled_of
-next_word l at from to h e g =
-    let m = run_of true (drop at l) in
-    let n = run_of false (drop from l) in
-    let d : drop m (drop at l) ≡ drop from l = drop-drop m at l ∙ ap (λ (i : ℕ). drop i l) (sym e) in
-    let s : words_in (drop at l) ≡ words_in (drop from l) = skip (drop at l) ∙ ap words_in d in
-    let k : to - from ≡ n = omega arith in
-    record {
-      found = λ z. s ∙ rw (k, g, ← drop-drop n from l) (word (drop from l) (omega arith));
-      none = λ z. s ∙ ap words_in (sym d ∙ ended (drop at l) (rw d (omega arith)));
-      on = omega arith;
-      ordered = omega arith;
-      within = omega (arith, run-within true (drop at l), run-within false (drop from l), length-drop at l, length-drop from l);
-    }
+-- the line behind its blanks: a word and what follows it, or nothing
+module _ (l filled : List ℕ) (e : filled ≡ drop (run_of true l) l) where
+  pub word-none : run_of false filled ≡ 0 → words_in l ≡ []
+  unfolding words_in pieces_of filled_of
+  word-none h = skip l ∙ ap words_in (ended l (rw e at h))
 
-pub words-end : (l : List ℕ) (at : ℕ) → length l ≤ at → words_in (drop at l) ≡ []
-unfolding words_in pieces_of filled_of
-words-end l at h = rw (drop_of_length-le l h)
-
--- whether a line has a word
-pub passed_so : (l : List ℕ) (from to : ℕ) → NextWord l 0 from to → eqb from to ≡ eqb (length (words_in l)) 0
-passed_so l from to w = elim (split (eqb from to)) [
-  | passes p ↦ rw (p, w.none (eqb-true from to p))
-  | fails p ↦ rw (p, w.found (omega (arith, eqb-false from to p, w.ordered))) (sym (ne_eqb (suc (length (words_in (drop to l)))) 0 (λ z. omega arith)))
-]
+  pub word-found : 0 < run_of false filled → words_in l ≡ take (run_of false filled) filled ∷ words_in (drop (run_of false filled) filled)
+  word-found h = skip l ∙ rw (← e) (word filled h)

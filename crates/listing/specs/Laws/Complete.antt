@@ -1,16 +1,15 @@
 -- Nothing is left out: for the bytes of a recording, the list of everything is the lines of that recording, record by record, and then how
 -- many there are.
-use Rattle.std.specs.Prelude.{◌≡◌, drop}
+use Rattle.std.specs.Prelude.{Ok, ◌≡◌, None, drop}
 use Rattle.std.proofs.Math.Path.{refl}
 use Rattle.std.proofs.Common.{sym, ap, ◌∙◌, le-ltb, drop-drop, drop_at}
-use Rattle.std.proofs.Math.Bool.{false}
 use mathlib.Core.List.{List, [], ◌∷◌, ◌++◌, append_assoc, append-nil}
 use Prim.Native.Nat.{ℕ, suc, ◌+◌, ◌*◌, ◌-◌, ◌≤◌, ◌<◌}
 use native.Mathlib.Omega.{arith}
 use Rattle.std.proofs.Math.ListN.{length, length-append, length-drop}
 use Rattle.codec.specs.declared.Position.{Position}
 use Rattle.codec.specs.declared.Record.{Record}
-use Rattle.codec.specs.declared.Record.TheVariants.{Head, Section, Ordering, Access, Refused}
+use Rattle.codec.specs.declared.Record.TheVariants.{Head, Section, Ordering, Access}
 use Rattle.codec.specs.Cell.{width_of}
 use Rattle.codec.specs.Decode.{record_of}
 use Rattle.codec.specs.Encode.{head_objects, head, section, ordering, access, op_length}
@@ -22,11 +21,9 @@ use Rattle.codec.specs.Laws.Encode.{head-length, head-objects-length, section-le
 use Rattle.codec.specs.Laws.Head.{length-long, fields_back}
 use Rattle.codec.specs.Laws.Roundtrip.{FitsPosition, FitsOp, read_head, read-section, read-ordering, read-access}
 use Rattle.codec.specs.Limit.{max_fields}
-use Rattle.codec.specs.Number.{short}
 use Rattle.entries.specs.Bytes.{orderings_bytes, entry_bytes, entry_length, body_bytes, sections_bytes, bytes_of}
 use Rattle.entries.specs.declared.Limits.{Limits}
 use Rattle.entries.proofs.Laws.Bytes.{entry_length_lem}
-use Rattle.entries.specs.Reading.{read}
 use Rattle.entries.specs.Recording.{Entry, Recording}
 use Rattle.entries.specs.Records.{records_in}
 use Rattle.reader.specs.Laws.Strict.{parse_strict}
@@ -39,32 +36,30 @@ use Rattle.listing.specs.Listed.{shows, listed, after_of, part_at, start}
 use Rattle.listing.specs.RecordingLines.{orderings_lines, entry_lines, body_lines, sections_lines, recording_lines}
 use Rattle.listing.specs.Text.{lines_to, is_missing, answer_of, text_of}
 use Rattle.listing.specs.Laws.Reached.{Reached, reached-start, reached-on, reached_past}
-use Rattle.listing.specs.Laws.Walk.{Good}
 
-module _ (chosen : ℕ) (b : List ℕ) where
-  -- with everything listed, each record that is read has its line
-  part-all : (p : Place) (r : Record) → Good r → part_at false chosen p r ≡ line_at p r
+module _ (b : List ℕ) where
+  -- with everything listed, each record that is Ok has its line
+  part-all : (p : Place) (r : Record) → part_at None p (Ok r) ≡ line_at p r
   unfolding part_at listed shows
-  part-all p (Head kind t n width) g = refl
-  part-all p (Section t n size) g = refl
-  part-all p (Ordering q) g = refl
-  part-all p (Access o) g = refl
-  part-all p (Refused n) g = absurd g
+  part-all p (Head kind t n width) = refl
+  part-all p (Section t n size) = refl
+  part-all p (Ordering q) = refl
+  part-all p (Access o) = refl
 
   -- the walk is at a place, with these bytes from there on
   record Comes (text : List ℕ) (p : Place) (rest : List ℕ) : Type 0 where
-    pub reached : Reached false chosen b (length b) text p
+    pub reached : Reached None b (length b) text p
     pub ahead : drop p.at b ≡ rest
 
   -- one record further
-  comes_on : (x : List ℕ) {text rest : List ℕ} {p : Place} → Comes text p (x ++ rest) → (r : Record) → record_of short (x ++ rest) ≡ r → Good r
-      → 0 < length x → (after_of p r).at ≡ p.at + length x → Comes (text ++ line_at p r) (after_of p r) rest
-  comes_on x {text} {rest} {p} c r e g h a =
-      let d : record_of short (drop p.at b) ≡ r = rw c.ahead e in
+  comes_on : (x : List ℕ) {text rest : List ℕ} {p : Place} → Comes text p (x ++ rest) → (r : Record) → record_of (x ++ rest) ≡ Ok r
+      → 0 < length x → (after_of p (Ok r)).at ≡ p.at + length x → Comes (text ++ line_at p r) (after_of p (Ok r)) rest
+  comes_on x {text} {rest} {p} c r e h a =
+      let d : record_of (drop p.at b) ≡ Ok r = rw c.ahead e in
       let l : length b - p.at ≡ length x + length rest = rw (length-drop, length-append) at (ap length c.ahead) in
-      let w = reached-on false chosen b (length b) text p c.reached (omega arith) (omega arith) (rw d (omega arith)) in
+      let w = reached-on None b (length b) text p c.reached (omega arith) (omega arith) (rw d (omega arith)) in
       record {
-        reached = rw (← part-all p r g) (rw d at w);
+        reached = rw (← part-all p r) (rw d at w);
         ahead = rw a (sym (drop-drop (length x) p.at b) ∙ ap (drop (length x)) c.ahead ∙ drop_at x rest (length x) refl);
       }
 
@@ -77,7 +72,7 @@ module _ (chosen : ℕ) (b : List ℕ) where
     orderings_come [] at own number w c = let z : at + 0 ≡ at = omega arith in rw (append-nil, z) c
     orderings_come (q ∷ qs) at own number {text} {rest} w c =
         let f : FitsPosition q = record { task = omega (arith, w.0.below); number = w.0.fits } in
-        let d = comes_on (ordering q) (rw append_assoc at c) (Ordering q) (read-ordering short q (orderings_bytes qs ++ rest) f) tt (rw ordering-length (omega arith)) (rw ordering-length) in
+        let d = comes_on (ordering q) (rw append_assoc at c) (Ordering q) (read-ordering q (orderings_bytes qs ++ rest) f) (rw ordering-length (omega arith)) (rw ordering-length) in
         let e : at + 8 * suc (length qs) ≡ at + 8 + 8 * length qs = omega arith in
         rw (e, ← append_assoc) (orderings_come qs (at + 8) own number w.1 d)
 
@@ -98,7 +93,7 @@ module _ (chosen : ℕ) (b : List ℕ) where
         let d = orderings_come e.orderings at own number w.orderings (rw append_assoc at c) in
         let s : at + entry_length e ≡ at + 8 * length e.orderings + op_length e.op = omega arith in
         rw (s, ← append_assoc)
-        (comes_on (access e.op) d (Access e.op) (read-access short e.op rest f) tt (omega (arith, access-long e.op)) (rw (access-length e.op k)))
+        (comes_on (access e.op) d (Access e.op) (read-access e.op rest f) (omega (arith, access-long e.op)) (rw (access-length e.op k)))
 
     body_comes : (es : List Entry) (at own number : ℕ) {text rest : List ℕ} → EntriesIn m es
         → Comes text (record { at = at; own = own; number = number }) (body_bytes es ++ rest)
@@ -116,42 +111,42 @@ module _ (chosen : ℕ) (b : List ℕ) where
 
   -- the sections, up to the end
   sections_come : (tasks objects fields : ℕ) → tasks ≤ 65536 → objects ≤ 65536 → fields ≤ max_fields → (bodies : List (List Entry)) (t : ℕ) (p : Place) {text : List ℕ} → t + length bodies ≤ 65536
-      → BodiesIn tasks objects fields t bodies → Comes text p (sections_bytes t bodies) → lines_to false chosen b (length b) ≡ text ++ sections_lines p.at t bodies
+      → BodiesIn tasks objects fields t bodies → Comes text p (sections_bytes t bodies) → lines_to None b (length b) ≡ text ++ sections_lines p.at t bodies
   unfolding sections_bytes sections_lines line_at after_of
   sections_come tasks objects fields ht ho hf [] t p {text} h w c =
-      rw append-nil (reached_past false chosen b (length b) text p c.reached (omega (arith, rw length-drop at (ap length c.ahead))))
+      rw append-nil (reached_past None b (length b) text p c.reached (omega (arith, rw length-drop at (ap length c.ahead))))
   sections_come tasks objects fields ht ho hf (es ∷ bodies) t p {text} h w c =
       let m : Limits = record { tasks = tasks; objects = objects; fields = fields; own = t } in
       let z : length (body_bytes es) ≤ length (body_bytes es ++ sections_bytes (suc t) bodies) = rw length-append (omega arith) in
-      let r = read-section short t (length es) (length (body_bytes es)) (body_bytes es ++ sections_bytes (suc t) bodies) (omega arith) w.0.count w.0.size z in
-      let d = comes_on (section t (length es) (length (body_bytes es))) (rw append_assoc at c) (Section t (length es) (length (body_bytes es))) r tt (rw section-length (omega arith)) (rw section-length) in
+      let r = read-section t (length es) (length (body_bytes es)) (body_bytes es ++ sections_bytes (suc t) bodies) (omega arith) w.0.count w.0.size z in
+      let d = comes_on (section t (length es) (length (body_bytes es))) (rw append_assoc at c) (Section t (length es) (length (body_bytes es))) r (rw section-length (omega arith)) (rw section-length) in
       let g = body_comes m ht ho hf es (p.at + 12) t 1 w.0.entries d in
       rw (← append_assoc, ← append_assoc) (sections_come tasks objects fields ht ho hf bodies (suc t) _ (omega arith) w.1 g)
 
 -- the bytes of a recording in range
-pub value-listed : (chosen : ℕ) (b : List ℕ) (r : Recording) → b ≡ bytes_of r → InRange r → lines_to false chosen b (length b) ≡ recording_lines r
+pub value-listed : (b : List ℕ) (r : Recording) → b ≡ bytes_of r → InRange r → lines_to None b (length b) ≡ recording_lines r
 unfolding bytes_of recording_lines head line_at after_of
-value-listed chosen b r e i =
+value-listed b r e i =
     let f : ℕ = r.fields in
     let n : ℕ = length r.owners in
     let h = i.head in
-    let c : Comes chosen b [] start (head f r.tasks r.owners r.values ++ sections_bytes 0 r.bodies) = record { reached = reached-start false chosen b (length b); ahead = e } in
+    let c : Comes b [] start (head f r.tasks r.owners r.values ++ sections_bytes 0 r.bodies) = record { reached = reached-start None b (length b); ahead = e } in
     let rest = head_objects (width_of f) r.owners r.values ++ sections_bytes 0 r.bodies in
     let z : n * head_step (width_of f) ≤ length rest = rw (length-append, head-objects-length (width_of f) r.owners r.values (cells_are f n h.value_each)) (omega arith) in
-    let q = read_head short f r.tasks n rest h.few_fields (omega (arith, h.few_tasks)) h.few_objects z in
+    let q = read_head f r.tasks n rest h.few_fields (omega (arith, h.few_tasks)) h.few_objects z in
     let k = head-length f r.tasks r.owners r.values h.value_each in
-    let d = comes_on chosen b (head f r.tasks r.owners r.values) c (Head (head_kind_of f) r.tasks n (width_of f)) (rw append_assoc q) tt (rw k (omega (arith, length-long f n))) (rw k (omega arith)) in
+    let d = comes_on b (head f r.tasks r.owners r.values) c (Head (head_kind_of f) r.tasks n (width_of f)) (rw append_assoc q) (rw k (omega (arith, length-long f n))) (rw k (omega arith)) in
     let y : 0 + head_length f n ≡ head_length f n = omega arith in
-    rw (y, fields_back) at (sections_come chosen b r.tasks n f (omega (arith, h.few_tasks)) (omega (arith, h.few_objects)) h.few_fields r.bodies 0 _ (omega (arith, i.body_each, h.few_tasks)) i.bodies d)
+    rw (y, fields_back) at (sections_come b r.tasks n f (omega (arith, h.few_tasks)) (omega (arith, h.few_objects)) h.few_fields r.bodies 0 _ (omega (arith, i.body_each, h.few_tasks)) i.bodies d)
 
 -- the lines and their number are the whole text
-pub value-shown : (chosen : ℕ) (b : List ℕ) (p : Parsed) → length b ≤ longest → parse b ≡ read p → b ≡ bytes_of p.recording → InRange p.recording
-    → text_of false chosen b ≡ recording_lines p.recording ++ records_line (records_in p.recording)
+pub value-shown : (b : List ℕ) (p : Parsed) → length b ≤ longest → parse b ≡ Ok p → b ≡ bytes_of p.recording → InRange p.recording
+    → text_of None b ≡ recording_lines p.recording ++ records_line (records_in p.recording)
 unfolding text_of answer_of is_missing
-value-shown chosen b p h e q i = rw (le-ltb longest (length b) h, e, value-listed chosen b p.recording q i)
+value-shown b p h e q i = rw (le-ltb longest (length b) h, e, value-listed b p.recording q i)
 
 -- THE LIST IS COMPLETE: for all bytes that are read, the text of everything is the lines of the recording that they mean, and its number of
 -- records
-pub all_shown : (chosen : ℕ) (b : List ℕ) (p : Parsed) → Bytes b → length b ≤ longest → parse b ≡ read p
-    → text_of false chosen b ≡ recording_lines p.recording ++ records_line (records_in p.recording)
-all_shown chosen b p by h e = let s = parse_strict b p by e in value-shown chosen b p h e s.bytes s.in_range
+pub all_shown : (b : List ℕ) (p : Parsed) → Bytes b → length b ≤ longest → parse b ≡ Ok p
+    → text_of None b ≡ recording_lines p.recording ++ records_line (records_in p.recording)
+all_shown b p by h e = let s = parse_strict b p by e in value-shown b p h e s.bytes s.in_range

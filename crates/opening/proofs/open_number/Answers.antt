@@ -2,7 +2,7 @@ use mathlib.Core.Path.{◌≡◌, sym, ◌∙◌}
 use mathlib.Core.Bool.{true}
 use native.Mathlib.Omega.{arith}
 use lib.ListN.{length}
-use borrow.Author.Tests.{not-true, not-false, lt-ltb, le-ltb}
+use borrow.Author.Tests.{lt-ltb, le-ltb}
 use Rattle.codec.specs.Head.{head_length}
 use Rattle.codec.specs.Limit.{is_within, max_tasks, max_objects, max_fields}
 use Rattle.codec.specs.Laws.Limit.{within_facts}

@@ -1,13 +1,8 @@
-use mathlib.Core.Path.{◌≡◌, refl, sym}
-use Prim.Native.Nat.{◌≤◌, ◌<◌, ◌-◌, ◌/◌}
-use native.Mathlib.Nat.{le_antisymm}
-use native.Mathlib.Omega.{arith}
-use lib.ListN.{length, length-set}
-use Rattle.codec.specs.Cell.{width_of}
-use Rattle.codec.specs.Laws.Cell.{width_some, cells_few, object-is}
+use mathlib.Core.Path.{◌≡◌}
+use Prim.Native.Nat.{◌≤◌, ◌-◌}
+use lib.ListN.{length}
 use Rattle.codec.specs.Limit.{max_cells}
 use Rattle.tracker.specs.Opened.{owned_cells}
-use Rattle.tracker.proofs.Laws.Opened.{cells_none, cells_more, object-below}
 use Rattle.opening.proofs.owned_cells.Given as goal
 
 abbrev pub invariant-loop-i : goal.invariant-loop-i

@@ -1,17 +1,14 @@
-use mathlib.Core.Path.{sym, ◌∙◌}
-use native.Mathlib.Omega.{arith}
-use borrow.Author.Tests.{eq-eqb, ne_eqb, not-true, not-false}
-use Rattle.order.specs.Order.{is_yes}
-use Rattle.order.specs.Laws.OrderCode.{yes_so}
+use Rattle.std.proofs.Common.{arith, sym, ◌∙◌}
+use Rattle.order.specs.Laws.OrderCode.{yes-short, yes-other, yes_so}
+use Rattle.order.proofs.is_yes.Goals.{then-fields-ne2-via-then-fields-ne2, then-fields-ne2-via-else-fields-ne2+then-not-begins_yes}
 use Rattle.order.proofs.is_yes.Goals as goal
 
-pub returns-then-n-ne2 : goal.returns-then-n-ne2
-unfolding is_yes
-returns-then-n-ne2 c = rw (ne_eqb _ 2 (λ z. c.if-n-ne2.true (c.fields-n.ensures.value ∙ z)))
-
-pub returns-then-not-begins_yes : goal.returns-then-not-begins_yes
-unfolding is_yes
-returns-then-not-begins_yes c = let f = c.fields-n in let e = sym c.begins_yes.ensures ∙ c.if-not-begins_yes.true in rw (eq-eqb _ 2 (sym f.ensures.value ∙ c.if-n-ne2.false), e)
+pub returns-then-fields-ne2 : goal.returns-then-fields-ne2
+returns-then-fields-ne2 c = let l = c.args.line.now in elim c.then-fields-ne2.branch [
+  | then-fields-ne2-via-then-fields-ne2 w ↦ sym (yes-short l (λ z. w.if-fields-ne2.true (c.fields.ensures.value ∙ z)))
+  | then-fields-ne2-via-else-fields-ne2+then-not-begins_yes w ↦ sym (yes-other l (sym w.if-not-begins_yes.ensures))
+]
 
 pub returns : goal.returns
-returns c = let f = c.fields-n in yes_so _ _ _ f.ensures.out_after (omega (arith, f.ensures.value)) (sym c.begins_yes.ensures ∙ c.if-not-begins_yes.false) (omega arith)
+returns c = let f = c.fields in
+    let y = yes_so c.args.line.now _ _ f.ensures.out_after (sym f.ensures.value ∙ c.if-fields-ne2.false) (sym c.if-not-begins_yes.ensures) (omega arith) in rw (c.is_some.ensures, c.number.ensures) y

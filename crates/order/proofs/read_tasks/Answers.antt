@@ -1,53 +1,32 @@
-use mathlib.Core.Path.{◌≡◌}
-use mathlib.Core.Bool.{true}
-use Prim.Native.Nat.{◌+◌, ◌-◌, ◌≤◌}
-use native.Mathlib.Omega.{arith}
-use borrow.Author.Tests.{not-true, not-false}
-use lib.ListN.{length, length-set}
-use Rattle.lines.specs.Laws.Lines.{lines_none}
-use Rattle.lines.specs.Lines.{lines_from}
+use Rattle.std.proofs.Common.{arith, sym, ◌∙◌, ◌≡◌, Some, None}
+use Rattle.std.proofs.lemmas.Result.{err_from_is_err_and}
+use Rattle.lines.specs.Lines.{lines_of}
 use Rattle.order.specs.Laws.Order.{first-from}
-use Rattle.order.specs.Laws.OrderCode.{task-number, task-none, Taken, taken_none, taken-all, taken_room, taken_wrong, taken_more}
+use Rattle.order.specs.Laws.OrderCode.{taken-all, taken_room, taken_wrong, taken_more, task-number, task-none}
 use Rattle.order.proofs.read_tasks.Goals as goal
 
-pub loop-at-init : goal.loop-at-init
-loop-at-init c = (omega arith, omega arith, omega arith, omega arith, taken_none _ _)
-
-pub slice_bounds-task_of-count : goal.slice_bounds-task_of-count
-slice_bounds-task_of-count c = c.next_line-l.ensures.ordered
-
-pub slice_bounds-task_of-start : goal.slice_bounds-task_of-start
-slice_bounds-task_of-start c = omega (arith, c.next_line-l.ensures.ordered)
-
-pub slice_bounds-task_of-end : goal.slice_bounds-task_of-end
-slice_bounds-task_of-end c = omega (arith, c.next_line-l.ensures.within)
-
-pub overflow_cast-tasks : goal.overflow_cast-tasks
-overflow_cast-tasks c = omega arith
-
-pub overflow_add-at : goal.overflow_add-at
-overflow_add-at c = omega (arith, c.next_line-l.ensures.within)
-
-pub loop-at-smaller : goal.loop-at-smaller
-loop-at-smaller c = let n = c.next_line-l in omega (arith, n.ensures.within, n.ensures.on (omega arith))
-
-pub returns : goal.returns
-returns c = let l = c.loop-at in let e = taken-all _ _ _ _ _ l.invariant.4 (lines_none l.number l.at c.args.text.now (omega arith)).0 in record { wrong_value = e.0; count_value = λ _. (e.1, e.2) }
-
-pub returns-then-not-l : goal.returns-then-not-l
-returns-then-not-l c = let e = taken-all _ _ _ _ _ c.loop-at.invariant.4 (c.next_line-l.ensures.none (not-true _ c.if-not-l.true)) in record { wrong_value = e.0; count_value = λ _. (e.1, e.2) }
-
-pub returns-then-task-ge-NONE : goal.returns-then-task-ge-NONE
-returns-then-task-ge-NONE c = let l = c.loop-at in let n = c.next_line-l in let there : n.result.there ≡ true = (not-false _ c.if-not-l.false) in let found = n.ensures.found there in record { wrong_value = taken_wrong _ _ _ _ _ l.invariant.4 _ _ found (task-none _ _ c.task_of-task.ensures (omega arith)); count_value = λ z. absurd (let y : ⊥ = omega (arith, first-from _ _ _ _ found) in y) }
+pub returns-in_err-task : goal.returns-in_err-task
+returns-in_err-task c = let l = c.loop-next in let n = c.in-Ok.ensures in
+    let p = err_from_is_err_and c.from_residual.result c.from_residual.ensures.1 in
+    let o : c.task_of.result ≡ None = grind arith in
+    let w : c.in_err-task.field-0.0 ≡ record { 0 = c.in-Ok.next.number } = grind arith in
+    rw (p.1, p.2, w) (
+      omega (arith, first-from l.number (lines_of l.rest.now) _ _ n.found, l.invariant.positive),
+      taken_wrong _ _ _ l.count l.tasks l.invariant.taken _ _ n.found (task-none _ (sym c.task_of.ensures ∙ o)),
+    )
 
 pub bounds-tasks-count : goal.bounds-tasks-count
-bounds-tasks-count c = let l = c.loop-at in let n = c.next_line-l in let there : n.result.there ≡ true = (not-false _ c.if-not-l.false) in omega (arith, taken_room _ _ _ _ _ l.invariant.4 _ _ (n.ensures.found there))
+bounds-tasks-count c = let l = c.loop-next in omega (arith, taken_room _ _ _ l.count l.tasks l.invariant.taken _ _ c.in-Ok.ensures.found, c.requires.text_in_bounds)
 
-pub overflow_add-count : goal.overflow_add-count
-overflow_add-count c = let l = c.loop-at in let n = c.next_line-l in let there : n.result.there ≡ true = (not-false _ c.if-not-l.false) in omega (arith, taken_room _ _ _ _ _ l.invariant.4 _ _ (n.ensures.found there))
+pub loop-next-preserved : goal.loop-next-preserved
+loop-next-preserved c = let l = c.loop-next in let n = c.in-Ok.ensures in
+    let o : c.task_of.result ≡ Some c.in_ok-task.task = grind arith in
+    let t = task-number _ _ (sym c.task_of.ensures ∙ o) in
+    record {
+      counted = omega (arith, n.counted, l.invariant.counted);
+      positive = omega arith;
+      taken = taken_more _ _ _ l.count l.tasks l.invariant.taken _ _ n.found _ t.0 t.1;
+    }
 
-pub overflow_add-number : goal.overflow_add-number
-overflow_add-number c = let n = c.next_line-l in let there : n.result.there ≡ true = (not-false _ c.if-not-l.false) in omega (arith, n.ensures.within, n.ensures.counted there)
-
-pub loop-at-preserved : goal.loop-at-preserved
-loop-at-preserved c = let l = c.loop-at in let n = c.next_line-l in let there : n.result.there ≡ true = (not-false _ c.if-not-l.false) in let t = task-number _ _ c.task_of-task.ensures c.if-task-ge-NONE.false in (omega (arith, n.ensures.within), omega (arith, n.ensures.counted there), omega arith, simp length-set l.invariant.3, taken_more _ _ _ _ _ l.invariant.4 _ _ (n.ensures.found there) _ t.0 t.1)
+pub returns : goal.returns
+returns c = let l = c.loop-next in let t = taken-all _ _ _ l.count l.tasks l.invariant.taken c.in_default.ensures.0 in (sym t.0, t.1, t.2)

@@ -1,11 +1,9 @@
-use mathlib.Core.Path.{sym, ◌∙◌}
-use native.Mathlib.Omega.{arith}
-use borrow.Author.Tests.{not-true, not-false}
-use Rattle.order.specs.Laws.OrderCode.{task_so}
+use Rattle.std.proofs.Common.{sym, ◌∙◌}
+use Rattle.order.specs.Laws.OrderCode.{task-read, task-missing}
 use Rattle.order.proofs.task_of.Goals as goal
 
-pub returns-then-not-is_row : goal.returns-then-not-is_row
-returns-then-not-is_row c = rw (sym c.is_row.ensures.value ∙ c.if-not-is_row.true)
+pub returns-in_err-row : goal.returns-in_err-row
+returns-in_err-row c = c.from_residual.ensures ∙ sym (task-missing c.args.line.now (sym c.in_err-row.ensures))
 
 pub returns : goal.returns
-returns c = let r = c.is_row in task_so _ _ _ r.ensures.row_after (sym r.ensures.value ∙ c.if-not-is_row.false) (omega arith)
+returns c = task-read c.args.line.now _ (sym c.in_ok-row.ensures)

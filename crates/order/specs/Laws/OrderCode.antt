@@ -1,54 +1,58 @@
 -- An order of tasks, read line by line into a buffer.
-use Rattle.std.specs.Prelude.{◌≡◌, refl, true, false, cond, List, [], ◌∷◌, ℕ, ◌+◌, ◌-◌, ◌<◌, ◌≤◌, eqb, ltb, length, get_or, set, take, drop}
-use Rattle.std.proofs.Common.{◌∙◌, arith, eqb-true, eq-eqb}
+use Rattle.std.specs.Prelude.{◌≡◌, refl, true, false, cond, List, [], ◌∷◌, ℕ, ◌+◌, ◌<◌, ◌≤◌, length, get_or, set, Option, Some, None}
+use Rattle.std.proofs.Common.{◌∙◌, arith, eq-eqb, ne_eqb}
+use Rattle.std.proofs.Math.Bool.{and-false}
+use Rattle.std.proofs.lemmas.List.Edits.{sets}
 use Rattle.std.proofs.Math.Path.{sym}
-use Rattle.std.proofs.lemmas.Bool.{eqb-false}
+use Rattle.std.proofs.lemmas.Option.{none-some, same_Some}
 use Rattle.codec.specs.Laws.Decide.{passes, fails, split}
 use Rattle.codec.specs.Store.{store}
 use Rattle.codec.specs.Laws.Store.{store-none, store-cons}
-use Rattle.lines.specs.declared.Found.{Found}
+use Rattle.lines.specs.declared.field.Field.{Field}
+use Rattle.lines.specs.Asked.{word_at}
+use Rattle.lines.specs.Field.{is_number}
 use Rattle.lines.specs.Fields.{fields_of}
-use Rattle.lines.specs.Laws.RowCode.{row_facts, row_at, below_at}
-use Rattle.lines.specs.Lines.{Line, lines_from, NextLine}
-use Rattle.lines.specs.Number.{none}
-use Rattle.lines.specs.Rows.{is_row}
-use Rattle.lines.specs.Words.{words_in, words_of, NextWord}
+use Rattle.lines.specs.Laws.RowCode.{row_at}
+use Rattle.lines.specs.Laws.Rows.{numbers_facts, numbers_bad, value_at}
+use Rattle.lines.specs.Lines.{Line, lines_of, numbered}
+use Rattle.lines.specs.Rows.{is_row, number_at, numbers_of}
+use Rattle.lines.specs.Words.{words_of}
 use Rattle.order.specs.Order.{is_yes_word, is_yes, behind_yes, order_lines, wrong_in, tasks_in}
 
+-- whether a line is `yes` and a number, as the code reads it from a row of two
+module _ (line : List ℕ) where
+  pub yes-short : (length (fields_of line) ≡ 2 → ⊥) → is_yes line ≡ false
+  unfolding is_yes
+  yes-short h = rw (ne_eqb (length (fields_of line)) 2 h)
+
+  pub yes-other : is_yes_word (get_or (words_of line) 0 []) ≡ false → is_yes line ≡ false
+  unfolding is_yes
+  yes-other h = rw h (and-false _)
+
+  pub yes_so : (row now : List Field) → now ≡ sets row 0 (fields_of line) → length (fields_of line) ≡ 2 → is_yes_word (get_or (words_of line) 0 []) ≡ true → 2 ≤ length row
+      → is_number (word_at now 1) ≡ is_yes line
+  unfolding is_yes
+  yes_so row now g e y h = rw (g, row_at row (fields_of line) 1 (omega arith) (omega arith), eq-eqb (length (fields_of line)) 2 e, y)
+
 -- the task number of a line
-abbrev pub task_of : List ℕ → ℕ
-task_of line = cond (is_row 1 (fields_of line)) (get_or (fields_of line) 0 0) none
+abbrev pub task_of : List ℕ → Option ℕ
+task_of line = cond (is_row 1 (fields_of line)) (Some (number_at (fields_of line) 0)) None
 
--- the first word, empty if there is none
-pub first_word : (l : List ℕ) (from to : ℕ) → NextWord l 0 from to → take (to - from) (drop from l) ≡ get_or (words_in l) 0 []
-first_word l from to w = elim (split (eqb from to)) [
-  | passes p ↦ let z : to - from ≡ 0 = omega (arith, eqb-true from to p) in rw (z, w.none (eqb-true from to p))
-  | fails p ↦ rw (w.found (omega (arith, eqb-false from to p, w.ordered)))
+pub task-read : (line row : List ℕ) → numbers_of 1 (fields_of line) ≡ Some row → Some (get_or row 0 0) ≡ task_of line
+task-read line row e = let n = numbers_facts 1 (fields_of line) row e in rw (n.0, n.1, value_at (fields_of line) 0)
+
+pub task-missing : (line : List ℕ) → numbers_of 1 (fields_of line) ≡ None → task_of line ≡ None
+task-missing line e = rw (numbers_bad 1 (fields_of line) e)
+
+pub task-number : (line : List ℕ) (t : ℕ) → task_of line ≡ Some t → (is_row 1 (fields_of line) ≡ true) × (t ≡ number_at (fields_of line) 0)
+task-number line t e = elim (split (is_row 1 (fields_of line))) [
+  | passes p ↦ (p, sym (same_Some _ _ (rw p at e)))
+  | fails p ↦ absurd (none-some _ (rw p at e))
 ]
 
--- a line that begins with `yes`: its second field as the code reads it, from a row of two
-pub yes_so : (row line now : List ℕ) → now ≡ store row 0 (fields_of line) → length (fields_of line) ≡ 2 → is_yes_word (get_or (words_of line) 0 []) ≡ true → 2 ≤ length row
-    → ltb (get_or now 1 0) none ≡ is_yes line
-unfolding is_yes
-yes_so row line now g e y h = rw (g, row_at row (fields_of line) 1 (omega arith) (omega arith), eq-eqb (length (fields_of line)) 2 e, y)
-
--- the field of a line that is one number
-pub row_one : (f : List ℕ) → is_row 1 f ≡ true → (length f ≡ 1) × (get_or f 0 0 < none)
-row_one f e = let k = row_facts 1 f e in (k.0, below_at none f k.1 0 (omega (arith, k.0)))
-
--- the task as the code reads it, from a row of one field
-pub task_so : (row line now : List ℕ) → now ≡ store row 0 (fields_of line) → is_row 1 (fields_of line) ≡ true → 1 ≤ length row → get_or now 0 0 ≡ task_of line
-task_so row line now g e h = let k = row_facts 1 (fields_of line) e in rw (g, e, row_at row (fields_of line) 0 (omega (arith, k.0)) (omega (arith, k.0)))
-
-pub task-number : (line : List ℕ) (t : ℕ) → t ≡ task_of line → t < none → (is_row 1 (fields_of line) ≡ true) × (t ≡ get_or (fields_of line) 0 0)
-task-number line t e h = elim (split (is_row 1 (fields_of line))) [
-  | passes p ↦ (p, e ∙ rw p)
-  | fails p ↦ absurd (let z : t ≡ none = e ∙ rw p in let y : ⊥ = omega arith in y)
-]
-
-pub task-none : (line : List ℕ) (t : ℕ) → t ≡ task_of line → none ≤ t → is_row 1 (fields_of line) ≡ false
-task-none line t e h = elim (split (is_row 1 (fields_of line))) [
-  | passes p ↦ absurd (let z : t ≡ get_or (fields_of line) 0 0 = e ∙ rw p in let y : ⊥ = omega (arith, (row_one (fields_of line) p).1) in y)
+pub task-none : (line : List ℕ) → task_of line ≡ None → is_row 1 (fields_of line) ≡ false
+task-none line e = elim (split (is_row 1 (fields_of line))) [
+  | passes p ↦ absurd (none-some _ (sym (rw p at e)))
   | fails p ↦ p
 ]
 
@@ -75,24 +79,24 @@ module _ (lines : List Line) (tasks : List ℕ) (left : List Line) (count : ℕ)
     unfolding wrong_in
     taken_wrong p = (rw (e, p)) ∙ t.same
 
-    pub taken_more : (v : ℕ) → is_row 1 (fields_of l.bytes) ≡ true → v ≡ get_or (fields_of l.bytes) 0 0 → Taken lines tasks rest (count + 1) (set now count v)
+    pub taken_more : (v : ℕ) → is_row 1 (fields_of l.bytes) ≡ true → v ≡ number_at (fields_of l.bytes) 0 → Taken lines tasks rest (count + 1) (set now count v)
     unfolding wrong_in tasks_in
     taken_more v p g = record {
       same = rw (e, p) at t.same;
       counted = omega (arith, rw e at t.counted);
-      held = rw g (store-cons now count (get_or (fields_of l.bytes) 0 0) (tasks_in rest)) ∙ rw e at t.held;
+      held = rw g (store-cons now count (number_at (fields_of l.bytes) 0) (tasks_in rest)) ∙ rw e at t.held;
     }
 
--- the first line as the search finds it: the tasks are in the lines behind it, or in all lines
-module _ (text : List ℕ) (f : Found) (n : NextLine text 0 1 f) where
-  pub order-none : f.there ≡ false → order_lines text ≡ []
+-- the first line: the tasks are in the lines behind it, or in all lines
+module _ (text : List ℕ) (l : Line) (rest : List Line) (e : numbered 1 (lines_of text) ≡ l ∷ rest) where
+  pub order-behind : is_yes l.bytes ≡ true → rest ≡ order_lines text
   unfolding behind_yes
-  order-none e = rw (n.none e)
+  order-behind y = rw (e, y)
 
-  pub order-behind : f.there ≡ true → is_yes (take (f.to - f.from) (drop f.from text)) ≡ true → lines_from (f.number + 1) (f.to + 1) text ≡ order_lines text
+  pub order-whole : is_yes l.bytes ≡ false → numbered 1 (lines_of text) ≡ order_lines text
   unfolding behind_yes
-  order-behind e y = rw (n.found e, y)
+  order-whole y = rw (e, y)
 
-  pub order-whole : f.there ≡ true → is_yes (take (f.to - f.from) (drop f.from text)) ≡ false → lines_from 1 0 text ≡ order_lines text
-  unfolding behind_yes
-  order-whole e y = rw (n.found e, y)
+pub order-none : (text : List ℕ) → numbered 1 (lines_of text) ≡ [] → numbered 1 (lines_of text) ≡ order_lines text
+unfolding behind_yes
+order-none text e = rw e

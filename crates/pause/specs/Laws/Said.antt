@@ -1,5 +1,5 @@
 -- What is written on both streams, as the code has it, and its cases.
-use Rattle.std.specs.Prelude.{◌≡◌, Bool, false, List, [], ℕ, ◌+◌, ◌≤◌, ◌<◌, eqb, length}
+use Rattle.std.specs.Prelude.{◌≡◌, false, Option, Some, None, List, [], ℕ, ◌+◌, ◌≤◌, ◌<◌, eqb, length}
 use Rattle.std.proofs.Math.Path.{refl}
 use Rattle.std.proofs.Math.Bool.{true}
 use Rattle.std.proofs.Common.{arith}
@@ -94,21 +94,21 @@ module _ (q : Request) (b : List ℕ) (o : OpenAnswer) (m : List ℕ) (e : Openi
         }
   ]
 
--- the order as text
-module _ (most : ℕ) (counts order b : List ℕ) where
-  pub asked_plain : asked_of most counts false order b ≡ answer_of (record { most = most; counts = counts; ordered = false; tasks = [] }) b (parse b)
-  unfolding asked_of can_follow
-  asked_plain = refl
+-- no order, and the order as text
+pub asked_plain : (most : ℕ) (counts b : List ℕ) → asked_of most counts None b ≡ answer_of (record { most = most; counts = counts; order = None }) b (parse b)
+unfolding asked_of
+asked_plain most counts b = refl
 
-  pub asked-ordered : length order ≤ longest → wrong_line order ≡ 0 → asked_of most counts true order b ≡ answer_of (record { most = most; counts = counts; ordered = true; tasks = tasks_of order }) b (parse b)
+module _ (most : ℕ) (counts order b : List ℕ) where
+  pub asked-ordered : length order ≤ longest → wrong_line order ≡ 0 → asked_of most counts (Some order) b ≡ answer_of (record { most = most; counts = counts; order = Some (tasks_of order) }) b (parse b)
   unfolding asked_of can_follow
   asked-ordered h z = rw (le-leb (length order) longest h, eq-eqb (wrong_line order) 0 z)
 
-  pub asked_wrong : length order ≤ longest → (wrong_line order ≡ 0 → ⊥) → asked_of most counts true order b ≡ record { text = []; reasons = wrong_order (wrong_line order) }
+  pub asked_wrong : length order ≤ longest → (wrong_line order ≡ 0 → ⊥) → asked_of most counts (Some order) b ≡ record { text = []; reasons = wrong_order (wrong_line order) }
   unfolding asked_of can_follow complaint_of
   asked_wrong h z = rw (le-leb (length order) longest h, ne_eqb (wrong_line order) 0 z, le-ltb longest (length order) h)
 
-  pub asked-long : longest < length order → asked_of most counts true order b ≡ record { text = []; reasons = long_order }
+  pub asked-long : longest < length order → asked_of most counts (Some order) b ≡ record { text = []; reasons = long_order }
   unfolding asked_of can_follow complaint_of
   asked-long h = rw (lt-leb (length order) longest h, lt-ltb longest (length order) h)
 
@@ -141,19 +141,19 @@ module _ (b counts : List ℕ) (f : Followed) (out why : List ℕ) (few : length
   ending_room z = omega (arith, simp length-append at (rw (eq-eqb f.stopped.number 0 z) at few))
 
 -- the steps asked for
-pub steps-given : (q : Request) (b : List ℕ) (r : Run) → q.ordered ≡ true → steps_of q b r ≡ q.tasks
+pub steps-given : (q : Request) (b : List ℕ) (r : Run) (tasks : List ℕ) → q.order ≡ Some tasks → steps_of q b r ≡ tasks
 unfolding steps_of
-steps-given q b r e = rw e
+steps-given q b r tasks e = rw e
 
-pub steps-lowest : (q : Request) (b : List ℕ) (r : Run) → q.ordered ≡ false → steps_of q b r ≡ schedule_of b (run_within q.counts r)
+pub steps-lowest : (q : Request) (b : List ℕ) (r : Run) → q.order ≡ None → steps_of q b r ≡ schedule_of b (run_within q.counts r)
 unfolding steps_of
 steps-lowest q b r e = rw e
 
-module _ (most : ℕ) (counts : List ℕ) (ordered : Bool) (order b : List ℕ) where
-  pub spoken_long : longest < length b → spoken_of most counts ordered order b ≡ record { text = long_line; reasons = [] }
+module _ (most : ℕ) (counts : List ℕ) (order : Option (List ℕ)) (b : List ℕ) where
+  pub spoken_long : longest < length b → spoken_of most counts order b ≡ record { text = long_line; reasons = [] }
   unfolding spoken_of
   spoken_long h = rw (lt-ltb longest (length b) h)
 
-  pub spoken_asked : length b ≤ longest → spoken_of most counts ordered order b ≡ asked_of most counts ordered order b
+  pub spoken_asked : length b ≤ longest → spoken_of most counts order b ≡ asked_of most counts order b
   unfolding spoken_of
   spoken_asked h = rw (le-ltb longest (length b) h)

@@ -1,9 +1,11 @@
 -- The comparison as the code does it, from the results of the two plays and the tests.
-use Rattle.std.specs.Prelude.{◌≡◌, Bool, List, ℕ, length}
+use Rattle.std.specs.Prelude.{Ok, Err, ◌≡◌, Bool, List, ℕ, length}
 use Rattle.std.proofs.Math.Path.{sym}
-use Rattle.std.proofs.Common.{◌∙◌, arith}
+use Rattle.std.proofs.Common.{ap₂, ◌∙◌}
 use borrow.Author.Tests.{eq-eqb, ne_eqb}
 use Rattle.codec.specs.Number.{entries as wrong_length}
+use Rattle.codec.specs.Reason.{number_of}
+use Rattle.entries.specs.declared.Refusal.{Refusal}
 use Rattle.reader.specs.declared.layout.Layout.{Layout}
 use Rattle.reader.specs.Layout.{layout_of}
 use Rattle.reader.specs.Parse.{parse}
@@ -12,7 +14,7 @@ use Rattle.playback.specs.Alike.{same_entries, alike_of, refusing, comparing, co
 use Rattle.scheduler.specs.Finish.{Play}
 use Rattle.playback.specs.Shown.{shown_play}
 use Rattle.playback.specs.ToEnd.{play_of}
-use Rattle.reader.specs.Laws.Located.{away, found, located}
+use Rattle.reader.specs.Laws.Located.{reads, refuses}
 use Rattle.codec.specs.Cell.{cells_of}
 
 -- the results of the two plays and the two tests on them
@@ -25,47 +27,38 @@ pub both_ended : (b c : List ℕ) (x y : Play) (m n : List ℕ) (a : Bool) → a
 both_ended b c x y m n a e g h = rw (e, g, h)
 
 -- the comparison by the tests in order
-module _ (b c m n : List ℕ) (l : Layout) (e : l ≡ layout_of (parse b)) where
-  pub first_away : (l.number ≡ 0 → ⊥) → refusing l.number l.offset m n ≡ same_outcome_of b c m n
+module _ (b c m n : List ℕ) where
+  pub first_away : (d : Refusal) → Err d ≡ layout_of (parse b) → refusing (number_of d.reason) d.offset m n ≡ same_outcome_of b c m n
   unfolding same_outcome_of compared
-  first_away z = elim (located b l e) [ away d q i o p ↦ rw (q, i, o) | found p q i o ↦ absurd (z i) ]
+  first_away d e = rw (refuses b d e).is
 
-  module _ (k : Layout) (z : l.number ≡ 0) (f : k ≡ layout_of (parse c)) where
-    pub second_away : (k.number ≡ 0 → ⊥) → refusing k.number k.offset m n ≡ same_outcome_of b c m n
+  module _ (l : Layout) (e : Ok l ≡ layout_of (parse b)) where
+    pub second_away : (d : Refusal) → Err d ≡ layout_of (parse c) → refusing (number_of d.reason) d.offset m n ≡ same_outcome_of b c m n
     unfolding same_outcome_of compared
-    second_away y = elim (located b l e) [
-      | away d q i o p ↦ absurd (omega (arith, p.0))
-      | found p q i o ↦ elim (located c k f) [ away d g j u v ↦ rw (q, g, j, u) | found d g j u ↦ absurd (y j) ]
-    ]
+    second_away d f = rw ((reads b l e).is, (refuses c d f).is)
 
-    module _ (y : k.number ≡ 0) where
+    module _ (k : Layout) (f : Ok k ≡ layout_of (parse c)) where
+      both_read : same_outcome_of b c m n ≡ compared b c m n (Ok (reads b l e).parsed) (Ok (reads c k f).parsed)
+      unfolding same_outcome_of
+      both_read = ap₂ (compared b c m n) (reads b l e).is (reads c k f).is
+
       pub first-entries : (length m ≡ cells_of l.fields l.objects → ⊥) → refusing wrong_length 0 m n ≡ same_outcome_of b c m n
-      unfolding same_outcome_of compared
-      first-entries h = elim (located b l e) [
-        | away d q i o p ↦ absurd (omega (arith, p.0))
-        | found p q i o ↦ elim (located c k f) [
-          | away d g j u v ↦ absurd (omega (arith, v.0))
-          | found d g j u ↦ rw (q, g, ne_eqb (length m) (cells_of p.recording.fields (length p.recording.owners)) (λ w. h (w ∙ sym o)))
-        ]
-      ]
+      unfolding compared
+      first-entries h =
+          let p = (reads b l e).parsed in
+          (rw (ne_eqb (length m) (cells_of p.recording.fields (length p.recording.owners)) (λ w. h (w ∙ sym (reads b l e).cells)))) ∙ sym both_read
 
       module _ (x : length m ≡ cells_of l.fields l.objects) where
         pub second-entries : (length n ≡ cells_of k.fields k.objects → ⊥) → refusing wrong_length 0 m n ≡ same_outcome_of b c m n
-        unfolding same_outcome_of compared
-        second-entries h = elim (located b l e) [
-          | away d q i o p ↦ absurd (omega (arith, p.0))
-          | found p q i o ↦ elim (located c k f) [
-            | away d g j u v ↦ absurd (omega (arith, v.0))
-            | found d g j u ↦ rw (q, g, eq-eqb (length m) (cells_of p.recording.fields (length p.recording.owners)) (x ∙ o), ne_eqb (length n) (cells_of d.recording.fields (length d.recording.owners)) (λ w. h (w ∙ sym u)))
-          ]
-        ]
+        unfolding compared
+        second-entries h =
+            let p = (reads b l e).parsed in
+            let q = (reads c k f).parsed in
+            (rw (eq-eqb (length m) (cells_of p.recording.fields (length p.recording.owners)) (x ∙ (reads b l e).cells), ne_eqb (length n) (cells_of q.recording.fields (length q.recording.owners)) (λ w. h (w ∙ sym (reads c k f).cells)))) ∙ sym both_read
 
         pub both_play : length n ≡ cells_of k.fields k.objects → comparing b c (play_of b m) (play_of c n) ≡ same_outcome_of b c m n
-        unfolding same_outcome_of compared
-        both_play h = elim (located b l e) [
-          | away d q i o p ↦ absurd (omega (arith, p.0))
-          | found p q i o ↦ elim (located c k f) [
-            | away d g j u v ↦ absurd (omega (arith, v.0))
-            | found d g j u ↦ rw (q, g, eq-eqb (length m) (cells_of p.recording.fields (length p.recording.owners)) (x ∙ o), eq-eqb (length n) (cells_of d.recording.fields (length d.recording.owners)) (h ∙ u))
-          ]
-        ]
+        unfolding compared
+        both_play h =
+            let p = (reads b l e).parsed in
+            let q = (reads c k f).parsed in
+            (rw (eq-eqb (length m) (cells_of p.recording.fields (length p.recording.owners)) (x ∙ (reads b l e).cells), eq-eqb (length n) (cells_of q.recording.fields (length q.recording.owners)) (h ∙ (reads c k f).cells))) ∙ sym both_read

@@ -8,7 +8,7 @@ use Rattle.codec.specs.Laws.Decide.{passes, fails, split, never}
 use Rattle.codec.specs.Limit.{max_tasks}
 use Rattle.codec.specs.Number.{differs}
 use Rattle.entries.specs.declared.Checked.{Checked}
-use Rattle.entries.specs.Reading.{stop}
+use Rattle.entries.specs.Reading.{numbered}
 use Rattle.pending.proofs.Laws.All.{all_facts}
 use Rattle.pending.specs.declared.Run.{Run}
 use Rattle.scheduler.specs.Finish.{Play, goes_on, onward, left_over, finish_of, tasks_in, is_done, finished_of}
@@ -58,17 +58,17 @@ module _ (b : List ℕ) (start x : Play) (g : Going b start x) where
 
     -- the memory differs from the read's record: the answer
     pub going_stopped : agrees (op_cell x.run.fields op) op x.memory ≡ false → (at : ℕ) → at ≡ record_at op next
-        → (record { tasks = x.run.tasks; objects = x.run.objects; steps = x.steps; finished = false; stopped = stop differs at } ≡ shown_play b (finish_of b start))
+        → (record { tasks = x.run.tasks; objects = x.run.objects; steps = x.steps; finished = false; stopped = numbered differs at } ≡ shown_play b (finish_of b start))
         × (x.memory ≡ (finish_of b start).memory)
     going_stopped a at e =
         let d = step-differs b x g.playing t op next n a in
         let q : x ≡ finish_of b start = sym (finish_end b x (rw (n.first, d))) ∙ g.same in
-        shown_so b x (finish_of b start) false (stop differs at) q (sym (left_unfinished x.run t n.below n.few n.left))
+        shown_so b x (finish_of b start) false (numbered differs at) q (sym (left_unfinished x.run t n.below n.few n.left))
         (rw (ne_eqb (ready_of x.run b).word 0 n.goes, n.first, d, e))
 
   -- no task is ready: the answer
   pub going_end : (ready_of x.run b).word ≡ 0 → (f : Bool) → f ≡ finished_of x.run
-      → (record { tasks = x.run.tasks; objects = x.run.objects; steps = x.steps; finished = f; stopped = stop 0 0 } ≡ shown_play b (finish_of b start)) × (x.memory ≡ (finish_of b start).memory)
+      → (record { tasks = x.run.tasks; objects = x.run.objects; steps = x.steps; finished = f; stopped = numbered 0 0 } ≡ shown_play b (finish_of b start)) × (x.memory ≡ (finish_of b start).memory)
   going_end z f e =
       let q : x ≡ finish_of b start = sym (finish_end b x (none_stops b x g.playing z)) ∙ g.same in
-      shown_so b x (finish_of b start) f (stop 0 0) q e (rw (eq-eqb (ready_of x.run b).word 0 z))
+      shown_so b x (finish_of b start) f (numbered 0 0) q e (rw (eq-eqb (ready_of x.run b).word 0 z))

@@ -27,5 +27,5 @@ lists text z =
       asked = w.asked;
       asks = w.asks;
       recorded_each = w.counted;
-      is = rw (w.is, ← counted-value o w.asked a.opened) (value-shown 0 b (parsed_by o w.asked) h e (recording-bytes o a.opened w.asked outs a.packed) (in_range o a.opened w.asked));
+      is = rw (w.is, ← counted-value o w.asked a.opened) (value-shown b (parsed_by o w.asked) h e (recording-bytes o a.opened w.asked outs a.packed) (in_range o a.opened w.asked));
     }

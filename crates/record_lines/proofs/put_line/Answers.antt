@@ -1,4 +1,3 @@
-use Rattle.text.specs.Laws.Appended.{nothing}
 use Rattle.record_lines.specs.RecordLines.{line_at}
 use Rattle.record_lines.proofs.put_line.Goals as goal
 
@@ -33,7 +32,3 @@ returns-in-Ordering c = rw c.in-Ordering.is c.put_ordering.ensures
 pub returns-in-Access : goal.returns-in-Access
 unfolding line_at
 returns-in-Access c = rw c.in-Access.is c.put_access.ensures
-
-pub returns-in-Refused : goal.returns-in-Refused
-unfolding line_at
-returns-in-Refused c = rw c.in-Refused.is (nothing _ _)

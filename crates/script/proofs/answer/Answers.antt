@@ -2,6 +2,8 @@ use mathlib.Core.Path.{sym, ◌∙◌}
 use native.Mathlib.Omega.{arith}
 use lib.Seq.{length-take-le}
 use Rattle.script.specs.Laws.AnswerCode.{short-out, short-message, too_long, answer_so}
+use Rattle.std.proofs.Common.{refl, Ok, Err}
+use Rattle.script.specs.Laws.MessageCode.{message-none}
 use Rattle.script.proofs.answer.Goals as goal
 
 pub returns-then-out-lt65536 : goal.returns-then-out-lt65536
@@ -19,8 +21,13 @@ slice_bounds-record-end c = omega (arith, c.longest_recording-room.ensures, c.if
 pub slice_bounds-record-end-2 : goal.slice_bounds-record-end-2
 slice_bounds-record-end-2 c = sym (length-take-le _ _ (omega (arith, c.longest_recording-room.ensures, c.if-out-lt65536.false)))
 
-pub record-r-requires : goal.record-r-requires
-record-r-requires c = (c.if-text-gt1048576.false, length-take-le _ _ (omega (arith, c.longest_recording-room.ensures, c.if-out-lt65536.false)) ∙ c.longest_recording-room.ensures)
+pub record-requires : goal.record-requires
+record-requires c = (c.if-text-gt1048576.false, length-take-le _ _ (omega (arith, c.longest_recording-room.ensures, c.if-out-lt65536.false)) ∙ c.longest_recording-room.ensures)
 
-pub returns : goal.returns
-returns c = let m = c.longest_recording-room in let r = c.record-r in let p = c.put_message-told.ensures in answer_so _ _ _ c.if-out-lt65536.false c.if-message-lt128.false _ _ p.upper_bound m.result m.ensures r.result _ c.if-text-gt1048576.false r.ensures p.appended
+pub returns-in-Ok : goal.returns-in-Ok
+returns-in-Ok c = let m = c.longest_recording-room in
+    answer_so _ _ _ c.if-out-lt65536.false c.if-message-lt128.false _ _ (omega arith) m.result m.ensures (Ok c.in-Ok.written) _ c.if-text-gt1048576.false c.in-Ok.ensures (message-none c.args.text.now 0 0 _ refl)
+
+pub returns-in-Err : goal.returns-in-Err
+returns-in-Err c = let m = c.longest_recording-room in let p = c.put_message-told.ensures in
+    answer_so _ _ _ c.if-out-lt65536.false c.if-message-lt128.false _ _ p.upper_bound m.result m.ensures (Err c.in-Err.stop) _ c.if-text-gt1048576.false c.in-Err.ensures p.appended

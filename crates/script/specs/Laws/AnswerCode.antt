@@ -1,15 +1,15 @@
 -- An answer as the code assembles it.
-use Rattle.std.specs.Prelude.{◌≡◌, List, ◌++◌, ℕ, ◌≤◌, ◌<◌, length, take, drop}
+use Rattle.std.specs.Prelude.{◌≡◌, List, ◌++◌, ℕ, ◌≤◌, ◌<◌, length, take, drop, Result}
 use native.Mathlib.Omega.{arith}
 use borrow.Author.Tests.{le-leb, lt-leb, lt-ltb, le-ltb}
 use Rattle.text.specs.Appended.{Appended}
 use Rattle.text.specs.Laws.Appended.{nothing, same_room}
-use Rattle.script.specs.declared.recording.Recorded.{Recorded}
+use Rattle.script.specs.declared.recording.Stop.{Stop}
 use Rattle.script.specs.AnswerOf.{longest, streams_of, message_room, answer_of, Answers}
 use Rattle.script.specs.Laws.Front.{front_appended}
 use Rattle.script.specs.Message.{long_word, message_of}
 use Rattle.script.specs.RecordOf.{record_of}
-use Rattle.script.specs.Laws.RecordOf.{Records}
+use Rattle.script.specs.Laws.RecordOf.{stop_line, stop_number, written_by, Records}
 use Rattle.logs.specs.Session.{most}
 
 module _ (text out message : List ℕ) where
@@ -33,12 +33,12 @@ module _ (text out message : List ℕ) where
       told_within = omega (arith, same_room a);
     })
 
-    pub answer_so : (room : ℕ) → room ≡ most → (r : Recorded) (part : List ℕ) → length text ≤ longest → Records (record_of text) r (take room out) part
-        → Appended (message_of text r.line r.number) message 0 after told
-        → Answers (answer_of (length out) (length message) text) (record { written = r.written; told = told }) out (part ++ drop room out) message after
+    pub answer_so : (room : ℕ) → room ≡ most → (r : Result ℕ Stop) (part : List ℕ) → length text ≤ longest → Records (record_of text) r (take room out) part
+        → Appended (message_of text (stop_line r) (stop_number r)) message 0 after told
+        → Answers (answer_of (length out) (length message) text) (record { written = written_by r; told = told }) out (part ++ drop room out) message after
     unfolding answer_of streams_of
     answer_so room e r part i x a =
-        let f = front_appended out part (record_of text).bytes room r.written (omega arith) (omega (arith, x.within)) x.stored in
+        let f = front_appended out part (record_of text).bytes room (written_by r) (omega arith) (omega (arith, x.within)) x.stored in
         rw (le-leb most (length out) k, le-leb message_room (length message) h, le-ltb longest (length text) i, ← x.line, ← x.number) (record {
           written = f;
           told = a;

@@ -46,6 +46,11 @@ module _ (s : State) where
   unfolding sound_of counters_sound
   scan_bad n h e = rw (all_fails (cell_sound_at s) (cell_count s) n h e) (and-false (counters_sound (counters_of s)))
 
+  -- so do unsound counters
+  pub scan_off : counters_sound (counters_of s) ≡ false → sound_of s ≡ false
+  unfolding sound_of counters_sound
+  scan_off e = rw e
+
   -- all cells that have a record
   scan_all : sound_to (min (cell_count s) max_cells) ≡ sound_of s
   unfolding sound_to sound_of counters_sound

@@ -1,21 +1,18 @@
-use native.Mathlib.Omega.{arith}
-use borrow.Author.Tests.{not-true, not-false}
-use Rattle.faults.specs.Laws.FaultTextCode.{fault_missing, fault_there}
+use Rattle.faults.specs.Laws.FaultTextCode.{text_missing, text_there}
 use Rattle.faults.specs.Laws.ReadingCode.{sizes_small}
-use borrow.Author.Rules.{rules}
 use Rattle.faults.proofs.fault.put_fault.Goals as goal
 
-pub put_line-requires : goal.put_line-requires
-put_line-requires c = record { at_in_bounds = search rules; objects_lt_none = rw c.text_sizes.ensures (sizes_small _) }
+pub put_line-requires-clause-objects_lt_limit : goal.put_line-requires-clause-objects_lt_limit
+put_line-requires-clause-objects_lt_limit c = rw c.text_sizes.ensures (sizes_small _)
 
-pub returns-then-not-p : goal.returns-then-not-p
-returns-then-not-p c =
-    let d = c.place_of-p in
-    let p = c.put_missing.ensures in
-    record { appended = fault_missing _ _ d.result d.ensures (not-true _ c.if-not-p.true) p.appended; upper_bound = omega (arith, p.upper_bound) }
+pub returns-in-Some-clause-appended : goal.returns-in-Some-clause-appended
+returns-in-Some-clause-appended c =
+    let p = c.place_of-p.ensures in
+    let f = rw c.in-Some.is at p.line in
+    rw (← text_there c.args.text.now c.args.line f.0, ← c.text_sizes.ensures, ← p.kind, ← f.1) c.put_line.ensures.appended
 
-pub returns : goal.returns
-returns c =
-    let d = c.place_of-p in
-    let p = c.put_line.ensures in
-    record { appended = fault_there _ _ d.result d.ensures _ c.text_sizes.ensures (not-false _ c.if-not-p.false) p.appended; upper_bound = p.upper_bound }
+pub returns-in-None-clause-appended : goal.returns-in-None-clause-appended
+returns-in-None-clause-appended c =
+    let p = c.place_of-p.ensures in
+    let f = rw c.in-None.is at p.line in
+    rw (← text_missing c.args.text.now c.args.line f, ← p.kind) c.put_missing.ensures.appended

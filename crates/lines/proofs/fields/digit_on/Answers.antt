@@ -1,16 +1,12 @@
-use mathlib.Core.Path.{sym}
-use native.Mathlib.Omega.{arith}
-use Rattle.lines.specs.Laws.Number.{digit_low, digit_high, digit_some}
+use Rattle.std.proofs.Common.{sym, ◌∙◌}
+use Rattle.lines.specs.Laws.Number.{digit_off, digit_large, digit_sum}
 use Rattle.lines.proofs.fields.digit_on.Goals as goal
 
-pub returns-then-byte-lt48 : goal.returns-then-byte-lt48
-returns-then-byte-lt48 c = let e = digit_low c.args.value c.args.byte c.if-byte-lt48.true in record { value = sym e; upper_bound = omega arith }
+pub returns-then-not-is_ascii_digit : goal.returns-then-not-is_ascii_digit
+returns-then-not-is_ascii_digit c = sym (digit_off c.args.value c.args.byte (sym c.is_ascii_digit.ensures.value ∙ c.if-not-is_ascii_digit.true))
 
-pub returns-then-byte-gt57 : goal.returns-then-byte-gt57
-returns-then-byte-gt57 c = let e = digit_high c.args.value c.args.byte (omega arith) c.if-byte-gt57.true in record { value = sym e; upper_bound = omega arith }
+pub returns-in_err-checked_mul : goal.returns-in_err-checked_mul
+returns-in_err-checked_mul c = c.from_residual.ensures ∙ sym (digit_large c.args.value c.args.byte c.in_err-checked_mul.ensures)
 
-pub returns-then-more-gt-NONE : goal.returns-then-more-gt-NONE
-returns-then-more-gt-NONE c = let e = digit_some c.args.value c.args.byte (omega arith) (omega arith) in record { value = rw e (omega arith); upper_bound = omega arith }
-
-pub returns-else-more-gt-NONE : goal.returns-else-more-gt-NONE
-returns-else-more-gt-NONE c = let e = digit_some c.args.value c.args.byte (omega arith) (omega arith) in record { value = rw e (omega arith); upper_bound = omega arith }
+pub returns : goal.returns
+returns c = digit_sum c.args.value c.args.byte _ _ _ (sym c.is_ascii_digit.ensures.value ∙ c.if-not-is_ascii_digit.false) c.in_ok-checked_mul.ensures.1 c.from.ensures c.checked_add.ensures

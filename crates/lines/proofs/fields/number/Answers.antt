@@ -1,19 +1,21 @@
-use mathlib.Core.Path.{◌≡◌, sym, ap, ◌∙◌}
-use Prim.Native.Nat.{ℕ, ◌≤◌, ◌-◌, ◌+◌}
-use native.Mathlib.Omega.{arith}
-use lib.ListN.{length, drop}
-use Rattle.lines.specs.Number.{digits_on, number_of}
-use Rattle.lines.specs.Laws.Number.{number_empty, number-some, digits_next, digits_end}
+use Rattle.std.proofs.Common.{arith, rules, sym, ◌∙◌}
+use borrow.Author.Tests.{tests}
+use Rattle.lines.specs.Laws.Number.{number_empty, number-some, digits_next, digits_off, digits_end}
 use Rattle.lines.proofs.fields.number.Goals as goal
 
-pub returns-then-word-eq0 : goal.returns-then-word-eq0
-returns-then-word-eq0 c = sym (number_empty c.args.word.now c.if-word-eq0.true)
+pub returns-then-is_empty : goal.returns-then-is_empty
+returns-then-is_empty c = sym (number_empty c.args.word.now (search (rules, tests)))
 
-pub loop-i-init : goal.loop-i-init
-loop-i-init c = (omega arith, omega arith, number-some c.args.word.now c.if-word-eq0.false)
+pub loop-byte-init : goal.loop-byte-init
+loop-byte-init c = number-some c.args.word.now (search (rules, tests))
 
-pub loop-i-preserved : goal.loop-i-preserved
-loop-i-preserved c = let w = c.args.word.now in let l = c.loop-i in (omega arith, omega arith, ap (λ (v : ℕ). digits_on v (drop (l.i + 1) w)) c.digit_on-value.ensures.value ∙ sym (digits_next l.value l.i w (omega arith)) ∙ l.invariant.2)
+pub returns-in_err-value : goal.returns-in_err-value
+returns-in_err-value c = let l = c.loop-byte in
+    c.from_residual.ensures ∙ sym (digits_off l.value l.byte-index c.args.word.now (omega arith) (sym (c.in_err-value.ensures))) ∙ l.invariant
+
+pub loop-byte-preserved : goal.loop-byte-preserved
+loop-byte-preserved c = let l = c.loop-byte in
+    sym (digits_next l.value l.byte-index c.in_ok-value.value c.args.word.now (omega arith) (sym (c.in_ok-value.ensures))) ∙ l.invariant
 
 pub returns : goal.returns
-returns c = let w = c.args.word.now in let l = c.loop-i in sym (digits_end l.value l.i w (omega arith)) ∙ l.invariant.2
+returns c = let l = c.loop-byte in sym (digits_end l.value l.byte-index c.args.word.now (omega arith)) ∙ l.invariant

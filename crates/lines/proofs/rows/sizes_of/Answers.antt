@@ -1,13 +1,12 @@
-use mathlib.Core.Path.{sym, ◌∙◌}
-use native.Mathlib.Omega.{arith}
-use Rattle.lines.specs.Laws.RowCode.{sizes_two, sizes_three, sizes_none}
+use Rattle.std.proofs.Common.{sym, ◌∙◌}
+use Rattle.lines.specs.Laws.Rows.{sizes-two, sizes-three, sizes-none}
 use Rattle.lines.proofs.rows.sizes_of.Goals as goal
 
-pub returns-then-is_row : goal.returns-then-is_row
-returns-then-is_row c = let r = c.is_row in sizes_two _ _ _ r.ensures.row_after (sym c.is_row.ensures.value ∙ c.if-is_row.true) (omega arith)
+pub returns-in-Some : goal.returns-in-Some
+returns-in-Some c = sizes-two _ _ (sym c.in-Some.ensures)
 
-pub returns-then-is_row-2 : goal.returns-then-is_row-2
-returns-then-is_row-2 c = let r = c.is_row-2 in sizes_three _ _ _ r.ensures.row_after (sym c.is_row.ensures.value ∙ c.if-is_row.false) (sym c.is_row-2.ensures.value ∙ c.if-is_row-2.true) (omega arith)
+pub returns-in_err-tasks : goal.returns-in_err-tasks
+returns-in_err-tasks c = c.from_residual.ensures ∙ sym (sizes-none _ (sym c.in_default.ensures) (sym c.in_err-tasks.ensures))
 
 pub returns : goal.returns
-returns c = c.no_sizes.ensures ∙ sizes_none _ (sym c.is_row.ensures.value ∙ c.if-is_row.false) (sym c.is_row-2.ensures.value ∙ c.if-is_row-2.false)
+returns c = sizes-three _ _ (sym c.in_default.ensures) (sym c.in_ok-tasks.ensures)

@@ -1,11 +1,23 @@
-use native.Mathlib.Omega.{arith}
-use mathlib.Core.Bool.{true}
-use lib.ListN.{drop, length-drop}
-use Rattle.lines.specs.Laws.WordsCode.{run-within, next_word}
+use Rattle.std.proofs.Common.{arith, rules, ap, ◌∙◌, ◌≡◌, ◌<◌, ℕ, length, drop, true}
+use borrow.Author.Tests.{tests}
+use Rattle.lines.specs.Laws.WordsCode.{run_of, word-none, word-found}
 use Rattle.lines.proofs.words.next_word.Goals as goal
 
-pub run_end-to-requires : goal.run_end-to-requires
-run_end-to-requires c = let a = c.args in let l = a.line.now in omega (arith, run-within true (drop a.at l), length-drop a.at l, c.run_end-from.ensures)
+pub returns-then-is_empty : goal.returns-then-is_empty
+returns-then-is_empty c =
+    let l = c.args.line.now in let f = c.split_at.result.1.now in
+    let e : f ≡ drop (run_of true l) l = c.split_at.ensures.back ∙ ap (λ (n : ℕ). drop n l) c.run_length.ensures.value in
+    let z : length c.split_at-2.result.0.now ≡ 0 = search (rules, tests) in
+    word-none l f e (omega (arith, c.run_length-2.ensures.value, c.split_at-2.ensures.front_len))
 
 pub returns : goal.returns
-returns c = let a = c.args in next_word a.line.now a.at c.run_end-from.result c.run_end-to.result (omega arith) c.run_end-from.ensures c.run_end-to.ensures
+returns c =
+    let l = c.args.line.now in let f = c.split_at.result.1.now in
+    let e : f ≡ drop (run_of true l) l = c.split_at.ensures.back ∙ ap (λ (n : ℕ). drop n l) c.run_length.ensures.value in
+    let n = c.run_length-2.ensures.value in
+    let z : 0 < length c.split_at-2.result.0.now = search (rules, tests) in
+    record {
+      found = rw (c.split_at-2.ensures.front, c.split_at-2.ensures.back, n) (word-found l f e (omega (arith, c.split_at-2.ensures.front_len)));
+      filled = z;
+      within = omega (arith, c.split_at.ensures.back_len, c.split_at-2.ensures.front_len, c.split_at-2.ensures.back_len);
+    }

@@ -18,4 +18,4 @@ pub returns : goal.returns
 returns c = let a = c.args in
     let x = c.play-x in
     let y = c.play-y in
-    let s = c.same_entries-memory in record { value = compares a.first.now a.second.now (play_of a.first.now a.first_memory.now) (play_of a.second.now a.second_memory.now) x.result y.result x.new.memory y.new.memory s.result c.alike.result x.ensures.value y.ensures.value x.ensures.memory_after y.ensures.memory_after s.ensures c.alike.ensures; first_memory_after = x.ensures.memory_after; second_memory_after = y.ensures.memory_after }
+    let s = c.eq-memory in record { value = compares a.first.now a.second.now (play_of a.first.now a.first_memory.now) (play_of a.second.now a.second_memory.now) x.result y.result x.new.memory y.new.memory s.result c.alike.result x.ensures.value y.ensures.value x.ensures.memory_after y.ensures.memory_after s.ensures c.alike.ensures; first_memory_after = x.ensures.memory_after; second_memory_after = y.ensures.memory_after }

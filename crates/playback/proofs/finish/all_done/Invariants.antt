@@ -1,13 +1,7 @@
-use mathlib.Core.Path.{◌≡◌, sym, ◌∙◌}
-use native.Mathlib.Omega.{arith}
-use Prim.Native.Nat.{◌-◌, ◌≤◌, ◌<◌}
-use borrow.Author.Tests.{lt-ltb, le-ltb}
-use Rattle.codec.specs.Limit.{max_tasks}
+use mathlib.Core.Path.{◌≡◌}
+use Prim.Native.Nat.{◌-◌, ◌≤◌}
 use Rattle.pending.specs.All.{all_from}
-use Rattle.pending.proofs.Laws.All.{all-on, all_off, all_end}
 use Rattle.scheduler.specs.Laws.Columns.{done_by, all_done_of}
-use Rattle.scheduler.specs.Finish.{tasks_in}
-use Rattle.scheduler.proofs.Laws.Finish.{tasks-few}
 use Rattle.playback.proofs.finish.all_done.Given as goal
 
 abbrev pub invariant-loop-t : goal.invariant-loop-t

@@ -1,6 +1,4 @@
 use mathlib.Core.Path.{sym, ◌∙◌}
-use lib.ListN.{length-map}
-use borrow.Author.Tests.{not-true, not-false}
 use Rattle.pending.specs.Laws.Moved.{Shaped}
 use Rattle.scheduler.proofs.Laws.Columns.{columns_told}
 use Rattle.playback.specs.Shown.{finished_call}
@@ -10,7 +8,7 @@ use Rattle.playback.proofs.finish.finished.Goals.{Start}
 
 pub returns-then-not-sound : goal.returns-then-not-sound
 unfolding finished_call
-returns-then-not-sound c = rw (sym c.sound.ensures ∙ c.if-not-sound.true)
+returns-then-not-sound c = rw (sym c.sound.ensures ∙ c.if-not-sound.true, c.number.ensures)
 
 -- the run's array has 16 entries
 shaped : (c : Start) → Shaped c.args.run

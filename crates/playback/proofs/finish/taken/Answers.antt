@@ -1,7 +1,6 @@
 use Rattle.replayer.specs.Memory.{agrees}
 use Rattle.codec.specs.Laws.Kind.{write_no_read}
 use Rattle.codec.specs.Kind.{writes, is_valued_read}
-use borrow.Author.Tests.{not-true, not-false}
 use Prim.Native.Nat.{ℕ}
 use mathlib.Core.Path.{◌≡◌, sym, ap, ◌∙◌}
 use mathlib.Core.Bool.{true, false}

@@ -10,7 +10,7 @@ playing : (c : After-set_starting-arg-1) → let a = c.args in CanPlay a.bytes.n
 playing c =
     let a = c.args in
     let p = c.requires in
-    can_play a.bytes.now a.memory.now a.l (λ i. omega (arith, c.shared_slice_known-1.given i)) p.0 p.1 p.2
+    can_play a.bytes.now a.memory.now a.l (λ i. omega (arith, c.shared_slice_known-1.given i)) p.0 p.1
 
 pub finish-requires : goal.finish-requires
 finish-requires c =
