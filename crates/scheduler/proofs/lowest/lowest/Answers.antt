@@ -1,4 +1,4 @@
-use mathlib.Core.Path.{◌≡◌, sym, ap, ◌∙◌}
+use mathlib.Core.Path.{◌≡◌, refl, sym, ap, ◌∙◌}
 use mathlib.Core.Bool.{true}
 use Rattle.std.specs.Prelude.{is_some}
 use Prim.Native.Nat.{◌<◌}
@@ -50,6 +50,9 @@ ready c = rw c.in-Some.is at (visited (goal.at.In-Some c).After-visit-going).rea
 
 next : (c : In-Some) → IsNext (run (goal.at.In-Some c).At-loop-t) c.args.bytes.now c.loop-t.t c.in-Some.open.op c.in-Some.open.next
 next c = visit_first _ _ c.loop-t.invariant.0.sound _ _ _ c.loop-t-test.true (ready c) ((visited (goal.at.In-Some c).After-visit-going).opens _ c.in-Some.is) c.loop-t.invariant.2
+
+pub loop-t-init : goal.loop-t-init
+loop-t-init c = (c.requires, omega arith, (λ u h. absurd (omega arith)), refl)
 
 pub offset_bounds-places-t : goal.offset_bounds-places-t
 offset_bounds-places-t c = omega (arith, few (goal.at.offset_bounds-places-t c).In-loop-t)
