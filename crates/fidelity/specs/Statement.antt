@@ -1,12 +1,11 @@
 -- DEMAND 3, the claim about whole runs (document 01, "Whole runs"), as one statement over two lists: any calls of `access` from an
 -- accepted opening, with fields or without (document 02, F-6), and any steps from an accepted replay opening of their recording. No proof is in
 -- this file.
-use Rattle.std.specs.Prelude.{true, false, List, ◌↔◌, ◌⊎◌, ◌≡◌, ℕ, suc, ◌≤◌, ◌<◌, length, get_or}
+use Rattle.std.specs.Prelude.{Ok, true, false, List, ◌↔◌, ◌⊎◌, ◌≡◌, ℕ, suc, ◌≤◌, ◌<◌, length, get_or}
 use Rattle.codec.specs.Kind.{access_kind}
 use Rattle.codec.specs.Number.{no_task, finished, held}
 use Rattle.reader.specs.Calls.{checked_of}
 use Rattle.reader.specs.Parse.{Parsed, parse}
-use Rattle.entries.specs.Reading.{read as reads, stop}
 use Rattle.history.specs.Entry.{Act, read, write, acquire, Entry}
 use Rattle.history.specs.History.{History}
 use Rattle.history.specs.Access.{Access}
@@ -71,8 +70,8 @@ module _ (o : Opening) (asked : List Asked) (outs : ℕ → List ℕ) (memory : 
     pub fields_stay : (last_box o asked).state.fields ≡ o.fields
     -- 2. The reader accepts the recording and reads it back as what was recorded: T, the number of fields, the owners, the starting values,
     -- and each task's accepted accesses with their orderings.
-    pub reader_takes : checked_of (parse bytes) ≡ stop 0 0
-    pub reads_back : (p : Parsed) × (parse bytes ≡ reads p) × (p.recording ≡ recording_by o asked)
+    pub reader_takes : checked_of (parse bytes) ≡ Ok tt
+    pub reads_back : (p : Parsed) × (parse bytes ≡ Ok p) × (p.recording ≡ recording_by o asked)
     -- 3. A step is taken exactly when its task is ready: it has accesses left, and every ordering before its next one is met. A step that
     -- is not taken leaves the run and the memory as they were, and gives 5, 15 or 16 and nothing else: the memory agrees with every read's
     -- record, in any allowed order (document 02, F-3).

@@ -4,7 +4,7 @@
 use Rattle.std.specs.Prelude.{Bool, cond, ◌||◌, List, [], ◌∷◌, ◌++◌, ℕ, eqb, leb}
 use Rattle.codec.specs.Number.{no_task, finished, held}
 use Rattle.entries.specs.declared.Checked.{Checked}
-use Rattle.entries.specs.Reading.{stop}
+use Rattle.entries.specs.Reading.{numbered}
 use Rattle.replayer.specs.declared.Stepped.{Stepped}
 use Rattle.replayer.specs.StepOf.{step_of}
 use Rattle.replay_lines.specs.Block.{turned_line}
@@ -20,7 +20,7 @@ pub record Followed : Type 0 where
 
 -- the play stays where it is, and nothing is written
 abbrev pub resting : Play → Followed
-resting x = record { text = []; play = x; stopped = stop 0 0 }
+resting x = record { text = []; play = x; stopped = numbered 0 0 }
 
 -- some lines, and then what follows them
 abbrev pub in_front : List ℕ → Followed → Followed
@@ -36,9 +36,9 @@ answer_at b x t = (step_of x.run b x.memory t).answer
 -- one step
 unfoldable pub tried_of : List ℕ → Play → ℕ → Followed
 tried_of b x t =
-    cond (takes_step b x t) (record { text = line_of t (answer_at b x t); play = stepped_by b x t; stopped = stop 0 0 })
-    (cond (is_passed (answer_at b x t).number) (record { text = turned_line t (answer_at b x t).number; play = x; stopped = stop 0 0 })
-    (record { text = []; play = x; stopped = stop (answer_at b x t).number (answer_at b x t).offset }))
+    cond (takes_step b x t) (record { text = line_of t (answer_at b x t); play = stepped_by b x t; stopped = numbered 0 0 })
+    (cond (is_passed (answer_at b x t).number) (record { text = turned_line t (answer_at b x t).number; play = x; stopped = numbered 0 0 })
+    (record { text = []; play = x; stopped = numbered (answer_at b x t).number (answer_at b x t).offset }))
 
 -- where it stops: after `most` steps, or with all tasks at their counts
 abbrev pub is_over : ℕ → List ℕ → Play → Bool

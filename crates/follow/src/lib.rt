@@ -28,17 +28,17 @@ pub struct Stood {
     pub stopped: Checked,
 }
 
+// Nothing stops it.
+const ON: Checked = Checked {
+    number: 0,
+    offset: 0,
+};
+
 // Whether a refused step is passed: no such task, nothing left for it, held.
 fn is_passed(number: u32) -> bool
     ensures { result ≡ is_passed number }
 {
-    if number == NO_TASK {
-        return true;
-    }
-    if number == FINISHED {
-        return true;
-    }
-    number == HELD
+    number == NO_TASK || number == FINISHED || number == HELD
 }
 
 // One step: its line if it is taken, `refused` and its number if it is passed.
@@ -55,18 +55,13 @@ fn put_tried(
     ensures { Stands (tried_of bytes.now (record { run = run; memory = memory.old; steps = steps }) task) out.old at (record { run = result.run; memory = memory.new; steps = result.steps }) result.stopped out.new result.at }
 {
     let s = step(run, bytes, memory, task);
-    let on = Checked {
-        number: 0,
-        offset: 0,
-    };
     if s.number == 0 {
         let end = put_step(out, at, task, s);
-        let after = s.run;
         return Stood {
-            run: after,
+            run: s.run,
             steps: steps + 1,
             at: end,
-            stopped: on,
+            stopped: ON,
         };
     }
     if is_passed(s.number) {
@@ -75,7 +70,7 @@ fn put_tried(
             run,
             steps,
             at: end,
-            stopped: on,
+            stopped: ON,
         };
     }
     let stopped = Checked {
@@ -105,15 +100,11 @@ fn put_next(
     ensures { Stands (next_by bytes.now counts.now (record { run = run; memory = memory.old; steps = steps }) task) out.old at (record { run = result.run; memory = memory.new; steps = result.steps }) result.stopped out.new result.at }
 {
     if is_there(run, counts, task) {
-        let stopped = Checked {
-            number: 0,
-            offset: 0,
-        };
         return Stood {
             run,
             steps,
             at,
-            stopped,
+            stopped: ON,
         };
     }
     put_tried(bytes, run, steps, memory, task, out, at)
@@ -124,10 +115,7 @@ fn is_over(run: Run, steps: usize, most: usize, counts: &[u32]) -> bool
     requires { length counts.now ≤ max_tasks }
     ensures { result ≡ (leb most steps || all_there counts.now run) }
 {
-    if most <= steps {
-        return true;
-    }
-    all_there(run, counts)
+    most <= steps || all_there(run, counts)
 }
 
 // The steps of a list, from the start of the output.
@@ -144,25 +132,19 @@ pub fn put_followed(
     requires steps_in_bounds { length (followed_of bytes.now most counts.now (record { run = start; memory = memory.old; steps = 0 }) steps.now).text ≤ length out.old }
     ensures { Stands (followed_of bytes.now most counts.now (record { run = start; memory = memory.old; steps = 0 }) steps.now) out.old 0 (record { run = result.run; memory = memory.new; steps = result.steps }) result.stopped out.new result.at }
 {
-    let on = Checked {
-        number: 0,
-        offset: 0,
-    };
     let mut p = Stood {
         run: start,
         steps: 0,
         at: 0,
-        stopped: on,
+        stopped: ON,
     };
-    for i in 0..steps.len() {
-        let run = p.run;
-        if is_over(run, p.steps, most, counts) {
+    for step in steps {
+        if is_over(p.run, p.steps, most, counts) {
             return p;
         }
-        let task = steps[i] as usize;
-        p = put_next(bytes, run, p.steps, memory, counts, task, out, p.at);
-        let stopped = p.stopped;
-        if stopped.number != 0 {
+        let task = *step as usize;
+        p = put_next(bytes, p.run, p.steps, memory, counts, task, out, p.at);
+        if p.stopped.number != 0 {
             return p;
         }
     }

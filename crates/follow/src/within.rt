@@ -4,20 +4,17 @@ ghost use Rattle.codec.specs.Limit.{max_tasks};
 ghost use Rattle.pending.specs.Laws.Moved.{Shaped};
 ghost use Rattle.follow.specs.Within.{is_there, all_there, run_within};
 
-use codec::limit::least;
-use pending::{Run, TaskRun};
+use pending::Run;
 
 // Whether a task has done as many accesses as its count; a task without a count never has.
 pub(crate) fn is_there(run: Run, counts: &[u32], task: usize) -> bool
     requires { length counts.now ≤ max_tasks }
     ensures { result ≡ is_there counts.now run task }
 {
-    if counts.len() <= task {
+    let Some(count) = counts.get(task) else {
         return false;
-    }
-    let x = run.runs[task];
-    let count = counts[task] as usize;
-    count <= x.done
+    };
+    *count as usize <= run.runs[task].done
 }
 
 // Whether all tasks have. If there are no counts, no place is named.
@@ -25,7 +22,7 @@ pub(crate) fn all_there(run: Run, counts: &[u32]) -> bool
     requires { length counts.now ≤ max_tasks }
     ensures { result ≡ all_there counts.now run }
 {
-    if counts.len() == 0 {
+    if counts.is_empty() {
         return false;
     }
     for t in 0..counts.len() {
@@ -43,19 +40,7 @@ pub fn within(run: Run, counts: &[u32]) -> Run
 {
     let mut runs = run.runs;
     for t in 0..counts.len() {
-        let x = runs[t];
-        let count = least(x.count, counts[t] as usize);
-        runs[t] = TaskRun {
-            place: x.place,
-            end: x.end,
-            done: x.done,
-            count,
-        };
+        runs[t].count = runs[t].count.min(counts[t] as usize);
     }
-    Run {
-        tasks: run.tasks,
-        objects: run.objects,
-        fields: run.fields,
-        runs,
-    }
+    Run { runs, ..run }
 }

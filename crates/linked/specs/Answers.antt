@@ -1,7 +1,8 @@
 -- An answer as numbers, in the order of its struct's fields; a call stores them from the start of `answer` on. A state or a run is not
 -- among them: it has arrays of its own.
-use Rattle.std.specs.Prelude.{List, [], ◌∷◌, ℕ}
-use Rattle.entries.specs.declared.Checked.{Checked}
+use Rattle.std.specs.Prelude.{Ok, Err, List, [], ◌∷◌, ℕ}
+use Rattle.codec.specs.Reason.{number_of}
+use Rattle.entries.specs.Reading.{Reading}
 use Rattle.opening.specs.declared.Opened.{Opened}
 use Rattle.recorder.specs.declared.Accessed.{Accessed}
 use Rattle.sections.specs.declared.Sectioned.{Sectioned}
@@ -29,8 +30,10 @@ section_numbers a = a.number ∷ a.offset ∷ a.written ∷ []
 abbrev pub pack_numbers : Packed → List ℕ
 pack_numbers a = a.number ∷ a.task ∷ a.offset ∷ a.written ∷ []
 
-abbrev pub check_numbers : Checked → List ℕ
-check_numbers a = a.number ∷ a.offset ∷ []
+-- a refusal, 0 and 0 if there is none
+abbrev pub check_numbers : Reading (Unit {0}) → List ℕ
+check_numbers (Err c) = number_of c.reason ∷ c.offset ∷ []
+check_numbers (Ok u) = 0 ∷ 0 ∷ []
 
 abbrev pub copy_numbers : Copied → List ℕ
 copy_numbers a = a.number ∷ a.offset ∷ a.written ∷ []

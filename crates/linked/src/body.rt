@@ -4,7 +4,7 @@ ghost use Rattle.codec.specs.Store.{store};
 ghost use Rattle.linked.specs.Answers.{copy_numbers};
 ghost use Rattle.linked.specs.CopyOf.{copy_of};
 
-use crate::answers::put_three;
+use crate::answers::put;
 use codec::number::{NO_ROOM, NO_TASK};
 use codec::write::put_bytes;
 use reader::layout::locate;
@@ -16,24 +16,27 @@ pub extern "C" fn wk_body(bytes: &[u8], task: usize, out: &mut [u8], answer: &mu
     ensures answer_after { answer.new ≡ store answer.old 0 (copy_numbers (copy_of bytes.now task out.old)) }
     ensures out_after { out.new ≡ (copy_of bytes.now task out.old).out }
 {
-    let l = locate(bytes);
-    if l.number != 0 {
-        put_three(answer, l.number as usize, l.offset, 0);
-        return;
-    }
+    let l = match locate(bytes) {
+        Ok(l) => l,
+        Err(refusal) => {
+            put(
+                answer,
+                &[refusal.reason.number() as usize, refusal.offset, 0],
+            );
+            return;
+        }
+    };
     if l.tasks <= task {
-        put_three(answer, NO_TASK as usize, 0, 0);
+        put(answer, &[NO_TASK as usize, 0, 0]);
         return;
     }
     let s = l.spans[task];
-    let start = s.start;
-    let stop = s.stop;
-    let part = &bytes[start..stop];
+    let part = &bytes[s.start..s.stop];
     let size = part.len();
     if out.len() < size {
-        put_three(answer, NO_ROOM as usize, 0, 0);
+        put(answer, &[NO_ROOM as usize, 0, 0]);
         return;
     }
     put_bytes(out, 0, part);
-    put_three(answer, 0, 0, size);
+    put(answer, &[0, 0, size]);
 }

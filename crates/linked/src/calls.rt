@@ -25,8 +25,9 @@ ghost use Rattle.linked.specs.Answers.{open_numbers, access_numbers, section_num
 ghost use Rattle.arrays.specs.Halves.{state_in, halves_of, words_of, moved_to};
 ghost use Rattle.arrays.specs.Places.{run_in, places_of};
 
-use crate::answers::{put_five, put_seven, put_six, put_three};
+use crate::answers::put;
 use arrays::{put_run, put_state, run_of, state_of};
+use entries::Refusal;
 use playability::playable;
 use playback::alike::same_outcome;
 use playback::finish::finished;
@@ -53,10 +54,8 @@ pub extern "C" fn wk_open(
     ensures words_after { words.new ≡ store words.old 0 (words_of (open_of tasks objects owners.now starts.now memory.old out.old).answer.state) }
 {
     let r = opening::open(tasks, objects, owners, starts, memory, out);
-    answer[0] = r.number as usize;
-    answer[1] = r.written;
-    let state = r.state;
-    put_state(state, halves, words);
+    put(answer, &[r.number as usize, r.written]);
+    put_state(r.state, halves, words);
 }
 
 #[unsafe(no_mangle)]
@@ -79,10 +78,8 @@ pub extern "C" fn wk_open_fields(
     ensures words_after { words.new ≡ store words.old 0 (words_of (open_fields_of tasks objects fields owners.now starts.now memory.old out.old).answer.state) }
 {
     let r = opening::open_fields(tasks, objects, fields, owners, starts, memory, out);
-    answer[0] = r.number as usize;
-    answer[1] = r.written;
-    let state = r.state;
-    put_state(state, halves, words);
+    put(answer, &[r.number as usize, r.written]);
+    put_state(r.state, halves, words);
 }
 
 #[unsafe(no_mangle)]
@@ -106,19 +103,20 @@ pub extern "C" fn wk_access(
 {
     let before = state_of(halves, words);
     let r = recorder::access(before, task, object, field, sort, value, memory, out);
-    put_five(
+    put(
         answer,
-        r.number as usize,
-        r.value as usize,
-        r.row as usize,
-        r.class as usize,
-        r.written,
+        &[
+            r.number as usize,
+            r.value as usize,
+            r.row as usize,
+            r.class as usize,
+            r.written,
+        ],
     );
     if r.number != 0 {
         return;
     }
-    let state = r.state;
-    put_state(state, halves, words);
+    put_state(r.state, halves, words);
 }
 
 #[unsafe(no_mangle)]
@@ -135,25 +133,31 @@ pub extern "C" fn wk_section(
 {
     let state = state_of(halves, words);
     let r = sections::section(state, task, log, out);
-    put_three(answer, r.number as usize, r.offset, r.written);
+    put(answer, &[r.number as usize, r.offset, r.written]);
+}
+
+// The refusal in numbers, 0 and 0 if there is none.
+fn put_check(answer: &mut [usize; 7], check: Result<(), Refusal>)
+    ensures { answer.new ≡ store answer.old 0 (check_numbers check) }
+{
+    match check {
+        Ok(()) => put(answer, &[0, 0]),
+        Err(refusal) => put(answer, &[refusal.reason.number() as usize, refusal.offset]),
+    }
 }
 
 #[unsafe(no_mangle)]
 pub extern "C" fn wk_check(bytes: &[u8], answer: &mut [usize; 7])
     ensures { answer.new ≡ store answer.old 0 (check_numbers (checked_of (parse bytes.now))) }
 {
-    let r = reader::check(bytes);
-    answer[0] = r.number as usize;
-    answer[1] = r.offset;
+    put_check(answer, reader::check(bytes));
 }
 
 #[unsafe(no_mangle)]
 pub extern "C" fn wk_body_check(bytes: &[u8], task: usize, answer: &mut [usize; 7])
     ensures { answer.new ≡ store answer.old 0 (check_numbers (body_checked (parse bytes.now) task)) }
 {
-    let r = reader::body_check(bytes, task);
-    answer[0] = r.number as usize;
-    answer[1] = r.offset;
+    put_check(answer, reader::body_check(bytes, task));
 }
 
 #[unsafe(no_mangle)]
@@ -168,9 +172,8 @@ pub extern "C" fn wk_replay_open(
     ensures places_after { places.new ≡ store places.old 0 (places_of (replay_of bytes.now memory.old).answer.run) }
 {
     let r = replayer::open(bytes, memory);
-    put_three(answer, r.number as usize, r.offset, r.records);
-    let run = r.run;
-    put_run(run, places);
+    put(answer, &[r.number as usize, r.offset, r.records]);
+    put_run(r.run, places);
 }
 
 #[unsafe(no_mangle)]
@@ -179,10 +182,15 @@ pub extern "C" fn wk_ready(places: &[usize; 67], bytes: &[u8], answer: &mut [usi
 {
     let run = run_of(places);
     let r = ready(run, bytes);
-    answer[0] = r.number as usize;
-    answer[1] = r.word as usize;
-    answer[2] = ready_count(r.word) as usize;
-    answer[3] = lowest_ready(r.word) as usize;
+    put(
+        answer,
+        &[
+            r.number as usize,
+            r.word as usize,
+            ready_count(r.word) as usize,
+            lowest_ready(r.word) as usize,
+        ],
+    );
 }
 
 #[unsafe(no_mangle)]
@@ -191,8 +199,7 @@ pub extern "C" fn wk_finished(places: &[usize; 67], bytes: &[u8], answer: &mut [
 {
     let run = run_of(places);
     let r = finished(run, bytes);
-    answer[0] = r.number as usize;
-    answer[1] = r.finished as usize;
+    put(answer, &[r.number as usize, r.finished as usize]);
 }
 
 // The tasks in the order in which always the lowest ready one is stepped, one byte for each step, and the number of steps.
@@ -219,18 +226,19 @@ pub extern "C" fn wk_step(
 {
     let before = run_of(places);
     let r = replayer::step(before, bytes, memory, task);
-    put_seven(
+    put(
         answer,
-        r.number as usize,
-        r.offset,
-        r.kind as usize,
-        r.object,
-        r.field,
-        r.value as usize,
-        r.access,
+        &[
+            r.number as usize,
+            r.offset,
+            r.kind as usize,
+            r.object,
+            r.field,
+            r.value as usize,
+            r.access,
+        ],
     );
-    let run = r.run;
-    put_run(run, places);
+    put_run(r.run, places);
 }
 
 #[unsafe(no_mangle)]
@@ -246,9 +254,7 @@ pub extern "C" fn wk_same_outcome(
     ensures answer_after { answer.new ≡ store answer.old 0 (same_numbers (same_outcome_of first.now second.now first_memory.old second_memory.old).answer) }
 {
     let r = same_outcome(first, second, first_memory, second_memory);
-    answer[0] = r.number as usize;
-    answer[1] = r.offset;
-    answer[2] = r.alike as usize;
+    put(answer, &[r.number as usize, r.offset, r.alike as usize]);
 }
 
 #[unsafe(no_mangle)]
@@ -257,15 +263,16 @@ pub extern "C" fn wk_replay_to_end(bytes: &[u8], memory: &mut [u32], answer: &mu
     ensures answer_after { answer.new ≡ store answer.old 0 (to_end_numbers (to_end_of bytes.now memory.old).answer) }
 {
     let r = replay_to_end(bytes, memory);
-    let stopped = r.stopped;
-    put_six(
+    put(
         answer,
-        r.number as usize,
-        r.offset,
-        r.steps,
-        r.finished as usize,
-        stopped.number as usize,
-        stopped.offset,
+        &[
+            r.number as usize,
+            r.offset,
+            r.steps,
+            r.finished as usize,
+            r.stopped.number as usize,
+            r.stopped.offset,
+        ],
     );
 }
 
@@ -276,8 +283,5 @@ pub extern "C" fn wk_playable(bytes: &[u8], out: &mut [u8], answer: &mut [usize;
     ensures answer_after { answer.new ≡ store answer.old 0 (playable_numbers (playable_of bytes.now out.old).answer) }
 {
     let r = playable(bytes, out);
-    answer[0] = r.number as usize;
-    answer[1] = r.offset;
-    answer[2] = r.task;
-    answer[3] = r.steps;
+    put(answer, &[r.number as usize, r.offset, r.task, r.steps]);
 }

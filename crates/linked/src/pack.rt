@@ -5,6 +5,7 @@ ghost use Rattle.sections.specs.PackOf.{pack_of};
 ghost use Rattle.linked.specs.Answers.{pack_numbers};
 ghost use Rattle.arrays.specs.Halves.{state_in};
 
+use crate::answers::put;
 use arrays::state_of;
 use sections::pack::pack;
 
@@ -23,8 +24,5 @@ pub extern "C" fn wk_pack(
 {
     let state = state_of(halves, words);
     let r = pack(state, logs, ends, out);
-    answer[0] = r.number as usize;
-    answer[1] = r.task;
-    answer[2] = r.offset;
-    answer[3] = r.written;
+    put(answer, &[r.number as usize, r.task, r.offset, r.written]);
 }

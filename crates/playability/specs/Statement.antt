@@ -1,11 +1,11 @@
 -- F-2, the claim about the call's answers over any bytes and any output (document 02, F-2). No proof is in this file.
-use Rattle.std.specs.Prelude.{List, ◌∷◌, ◌++◌, ◌↔◌, ◌≡◌, ℕ, ◌+◌, ◌*◌, ◌≤◌, ◌<◌, length, get_or, take}
+use Rattle.codec.specs.Reason.{number_of}
+use Rattle.std.specs.Prelude.{Err, Ok, List, ◌∷◌, ◌++◌, ◌↔◌, ◌≡◌, ℕ, ◌+◌, ◌*◌, ◌≤◌, ◌<◌, length, get_or, take}
 use Rattle.codec.specs.declared.Position.{Position}
 use Rattle.codec.specs.Number.{no_room, no_order, ByReader}
 use Rattle.codec.specs.Store.{store}
-use Rattle.entries.specs.declared.Checked.{Checked}
+use Rattle.entries.specs.declared.Refusal.{Refusal}
 use Rattle.entries.specs.Accesses.{accesses_in}
-use Rattle.entries.specs.Reading.{refused, read}
 use Rattle.entries.specs.Recording.{no_entry}
 use Rattle.history.specs.Closed.{Met}
 use Rattle.reader.specs.Calls.{no_span}
@@ -41,20 +41,20 @@ module _ (b out : List ℕ) where
 
   pub record Answers : Type 0 where
     -- 1. Bytes that do not read: the reader's number, 10 to 14, and offset.
-    pub bytes_first : (c : Checked) → parse b ≡ refused c → (answer ≡ refused_playable c.number c.offset 0) × ByReader c.number
+    pub bytes_first : (c : Refusal) → parse b ≡ Err c → (answer ≡ refused_playable (number_of c.reason) c.offset 0) × ByReader (number_of c.reason)
     -- 2. 18 exactly if no list of tasks is an order of all accesses; with it the lowest task that stays held and what holds it up.
-    pub without_order : (p : Parsed) → parse b ≡ read p → (answer.number ≡ no_order) ↔ ((order : List ℕ) → Plays p.recording.bodies order → ⊥)
-    pub held_up : (p : Parsed) → parse b ≡ read p → answer.number ≡ no_order → HeldUp p answer.task answer.offset
+    pub without_order : (p : Parsed) → parse b ≡ Ok p → (answer.number ≡ no_order) ↔ ((order : List ℕ) → Plays p.recording.bodies order → ⊥)
+    pub held_up : (p : Parsed) → parse b ≡ Ok p → answer.number ≡ no_order → HeldUp p answer.task answer.offset
     -- 3. 9 exactly if there is an order and the output is shorter than the number of accesses.
-    pub no_room_left : (p : Parsed) → parse b ≡ read p
+    pub no_room_left : (p : Parsed) → parse b ≡ Ok p
         → (answer.number ≡ no_room) ↔ (((order : List ℕ) × Plays p.recording.bodies order) × (length out < accesses_in p.recording.bodies))
     -- 4. 0 exactly if there is an order and room for it; what is written is one, the lowest ready task next at each place, from the
     -- output's start, and the rest of the output is as it was.
-    pub accepted : (p : Parsed) → parse b ≡ read p
+    pub accepted : (p : Parsed) → parse b ≡ Ok p
         → (answer.number ≡ 0) ↔ (((order : List ℕ) × Plays p.recording.bodies order) × (accesses_in p.recording.bodies ≤ length out))
-    pub order_written : (p : Parsed) → parse b ≡ read p → answer.number ≡ 0
+    pub order_written : (p : Parsed) → parse b ≡ Ok p → answer.number ≡ 0
         → (order : List ℕ) × Plays p.recording.bodies order × LowestFirst p.recording.bodies order
         × (answer.steps ≡ accesses_in p.recording.bodies) × (after ≡ store out 0 order)
     -- 5. A refusal leaves the output as it was and answers no steps. Task and offset are 0 where they mean nothing.
     pub refusal_keeps : (answer.number ≡ 0 → ⊥) → (after ≡ out) × (answer.steps ≡ 0)
-    pub nothing_held : (p : Parsed) → parse b ≡ read p → (answer.number ≡ no_order → ⊥) → (answer.task ≡ 0) × (answer.offset ≡ 0)
+    pub nothing_held : (p : Parsed) → parse b ≡ Ok p → (answer.number ≡ no_order → ⊥) → (answer.task ≡ 0) × (answer.offset ≡ 0)

@@ -12,11 +12,11 @@ use entries::Limits;
 use pending::next::{dones_of, look_at};
 use pending::{Run, TaskRun};
 
-// No task has accesses left; or the one that is held and the offset of the ordering.
-#[derive(Clone, Copy)]
-pub enum Hold {
-    Free,
-    Held { task: usize, offset: usize },
+// The task that is held, and the offset of the ordering that is not met.
+#[derive(Clone, Copy, Debug, PartialEq, Eq)]
+pub struct Held {
+    pub task: usize,
+    pub offset: usize,
 }
 
 // The offset of the first unmet ordering before a task's next access, 0 if there is none; given the task's record, the limits and the
@@ -32,8 +32,8 @@ fn offset_of(x: TaskRun, bytes: &[u8], limits: Limits, dones: &[usize; TASKS]) -
     0
 }
 
-// The tasks are tested from 0 on.
-pub(crate) fn hold_of(run: Run, bytes: &[u8]) -> Hold
+// The tasks are tested from 0 on; none has accesses left where nothing is held.
+pub(crate) fn hold_of(run: Run, bytes: &[u8]) -> Option<Held>
     requires { Sound run (length bytes.now) }
     ensures { result ≡ hold_of bytes.now run }
 {
@@ -48,8 +48,8 @@ pub(crate) fn hold_of(run: Run, bytes: &[u8]) -> Hold
                 own: t,
             };
             let offset = offset_of(x, bytes, limits, &dones);
-            return Hold::Held { task: t, offset };
+            return Some(Held { task: t, offset });
         }
     }
-    Hold::Free
+    None
 }

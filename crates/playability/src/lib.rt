@@ -3,12 +3,14 @@
 #![tactic(auto)]
 
 ghost use Rattle.std.specs.Prelude.{◌≡◌};
+ghost use Rattle.codec.specs.Reason.{number_of};
 ghost use Rattle.playability.specs.PlayableOf.{refused_playable, playable_of};
 ghost use Rattle.playability.specs.Settle.{settle_of};
 
-use crate::hold::{Hold, hold_of};
+use crate::hold::hold_of;
 use crate::settle::{Settled, settle};
-use codec::number::{NO_ORDER, NO_ROOM};
+use codec::number::Reason;
+use entries::Refusal;
 use scheduler::schedule::schedule;
 
 pub mod hold;
@@ -16,7 +18,7 @@ pub mod settle;
 
 // The number; the offset of the record that is refused or, with 18, of the ordering that is not met; with 18 the task that is held; the
 // steps of the order.
-#[derive(Clone, Copy)]
+#[derive(Clone, Copy, Debug, PartialEq, Eq)]
 pub struct Playability {
     pub number: u32,
     pub offset: usize,
@@ -24,11 +26,11 @@ pub struct Playability {
     pub steps: usize,
 }
 
-fn refused(number: u32, offset: usize, task: usize) -> Playability
-    ensures { result ≡ refused_playable number offset task }
+fn refused(reason: Reason, offset: usize, task: usize) -> Playability
+    ensures { result ≡ refused_playable (number_of reason) offset task }
 {
     Playability {
-        number,
+        number: reason.number(),
         offset,
         task,
         steps: 0,
@@ -38,21 +40,24 @@ fn refused(number: u32, offset: usize, task: usize) -> Playability
 // The order is written from the start of the output, one byte for each step, always the lowest ready task next. It is played once before
 // anything is written, because a refusal leaves the output as it was; where that play stops is given, so that a caller who needs it too
 // need not have the bytes checked again.
-pub fn playable_settled(s: Settled, bytes: &[u8], out: &mut [u8]) -> Playability
-    requires { s ≡ settle_of bytes.now }
+pub fn playable_settled(
+    settled: Result<Settled, Refusal>,
+    bytes: &[u8],
+    out: &mut [u8],
+) -> Playability
+    requires { settled ≡ settle_of bytes.now }
     ensures value { result ≡ (playable_of bytes.now out.old).answer }
     ensures out_after { out.new ≡ (playable_of bytes.now out.old).out }
 {
-    if s.number != 0 {
-        return refused(s.number, s.offset, 0);
-    }
-    let run = s.run;
-    let h = hold_of(run, bytes);
-    if let Hold::Held { task, offset } = h {
-        return refused(NO_ORDER, offset, task);
+    let s = match settled {
+        Ok(s) => s,
+        Err(refusal) => return refused(refusal.reason, refusal.offset, 0),
+    };
+    if let Some(held) = hold_of(s.run, bytes) {
+        return refused(Reason::NoOrder, held.offset, held.task);
     }
     if out.len() < s.steps {
-        return refused(NO_ROOM, 0, 0);
+        return refused(Reason::NoRoom, 0, 0);
     }
     let start = s.start;
     let steps = schedule(start, bytes, out);
@@ -69,6 +74,5 @@ pub fn playable(bytes: &[u8], out: &mut [u8]) -> Playability
     ensures value { result ≡ (playable_of bytes.now out.old).answer }
     ensures out_after { out.new ≡ (playable_of bytes.now out.old).out }
 {
-    let s = settle(bytes);
-    playable_settled(s, bytes, out)
+    playable_settled(settle(bytes), bytes, out)
 }

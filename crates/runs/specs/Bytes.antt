@@ -1,5 +1,6 @@
 -- The runs on the bench that concern bytes alone (document 01, "Runs on the bench", marked P), by computation.
-use Rattle.std.specs.Prelude.{false, ◌≡◌, [], ◌∷◌, ◌++◌, length, take}
+use Rattle.std.specs.Prelude.{Ok, Err, false, ◌≡◌, [], ◌∷◌, ◌++◌, length, take}
+use Rattle.codec.specs.declared.number.Reason.TheVariants.{Short, Misplaced, Range}
 use Rattle.codec.specs.Encode.{op_of}
 use Rattle.entries.specs.Reading.{stop}
 use Rattle.entries.specs.Recording.{Recording}
@@ -16,9 +17,9 @@ abbrev zeroth : Recording
 zeroth = record { tasks = 2; fields = 0; owners = 0 ∷ []; values = 0 ∷ []; bodies = (record { orderings = record { task = 1; number = 0 } ∷ []; op = op_of 0 false 0 0 0 } ∷ []) ∷ [] ∷ [] }
 
 pub record Bytes : Type 0 where
-  pub none : checked_of (parse []) ≡ stop 10 0
+  pub none : checked_of (parse []) ≡ Err (stop Short 0)
   pub size : length (bytes_of smallest) ≡ 25
-  pub whole : checked_of (parse (bytes_of smallest)) ≡ stop 0 0
-  pub cut : checked_of (parse (take 24 (bytes_of smallest))) ≡ stop 10 13
-  pub longer : checked_of (parse (bytes_of smallest ++ (0 ∷ []))) ≡ stop 12 25
-  pub from_zero : checked_of (parse (bytes_of zeroth)) ≡ stop 13 25
+  pub whole : checked_of (parse (bytes_of smallest)) ≡ Ok tt
+  pub cut : checked_of (parse (take 24 (bytes_of smallest))) ≡ Err (stop Short 13)
+  pub longer : checked_of (parse (bytes_of smallest ++ (0 ∷ []))) ≡ Err (stop Misplaced 25)
+  pub from_zero : checked_of (parse (bytes_of zeroth)) ≡ Err (stop Range 25)

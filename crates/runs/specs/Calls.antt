@@ -1,9 +1,8 @@
 -- The runs on the bench that concern the recorder (document 01, "Runs on the bench", marked P), by computation.
-use Rattle.std.specs.Prelude.{◌≡◌, List, [], ◌∷◌, ◌++◌, ℕ, length, replicate}
+use Rattle.std.specs.Prelude.{Ok, ◌≡◌, List, [], ◌∷◌, ◌++◌, ℕ, length, replicate}
 use Rattle.codec.specs.Encode.{access}
 use Rattle.reader.specs.Parse.{parse}
 use Rattle.reader.specs.Calls.{checked_of}
-use Rattle.entries.specs.Reading.{stop}
 use Rattle.opening.specs.OpenOf.{OpenOutcome, open_of}
 use Rattle.recorder.specs.WholeRun.{Call, Box, outcome, called_all, packed}
 
@@ -40,7 +39,7 @@ pub record Calls : Type 0 where
   pub a_body_0 : length (box-a.logs 0) ≡ 28
   pub a_body_1 : length (box-a.logs 1) ≡ 36
   pub a_recording : length recording-a ≡ 106
-  pub a_taken : checked_of (parse recording-a) ≡ stop 0 0
+  pub a_taken : checked_of (parse recording-a) ≡ Ok tt
   pub a_memory : box-a.memory ≡ 9 ∷ 0 ∷ []
   -- T = 0 and 17 give 1; 16 is accepted; N = 257 gives 2
   pub no_tasks : (opening 0).answer.number ≡ 1

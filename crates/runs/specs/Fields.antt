@@ -1,7 +1,6 @@
 -- Runs with fields inside an object (document 02, F-6), by computation.
-use Rattle.std.specs.Prelude.{◌≡◌, List, [], ◌∷◌, ◌++◌, ℕ, length, replicate}
+use Rattle.std.specs.Prelude.{Ok, ◌≡◌, List, [], ◌∷◌, ◌++◌, ℕ, length, replicate}
 use Rattle.codec.specs.Cell.{cell_of}
-use Rattle.entries.specs.Reading.{stop}
 use Rattle.opening.specs.OpenOf.{OpenOutcome, open_fields_of}
 use Rattle.reader.specs.Calls.{checked_of}
 use Rattle.reader.specs.Parse.{parse}
@@ -45,7 +44,7 @@ pub record Fields : Type 0 where
   pub body_0 : length (box.logs 0) ≡ 12
   pub body_1 : length (box.logs 1) ≡ 12
   pub size : length recording ≡ 67
-  pub taken : checked_of (parse recording) ≡ stop 0 0
+  pub taken : checked_of (parse recording) ≡ Ok tt
   pub memory : box.memory ≡ 7 ∷ 5 ∷ []
   -- F = 0 and 9 give 20, after 1 and 2 and before 3
   pub no_fields : number_of 1 1 0 ≡ 20

@@ -1,10 +1,9 @@
 -- Run A (document 01, "Runs on the bench") with both kinds of reads (document 02, F-3): with kind 4, by which document 01 gives its sizes, as
 -- a recording that is written, read and played; and with kind 6. And what a changed value does. By computation.
-use Rattle.std.specs.Prelude.{List, [], ◌∷◌, ◌++◌, ◌≡◌, ℕ, ◌+◌, length}
+use Rattle.std.specs.Prelude.{Ok, List, [], ◌∷◌, ◌++◌, ◌≡◌, ℕ, ◌+◌, length}
 use Rattle.codec.specs.declared.Op.{Op}
 use Rattle.codec.specs.Kind.{read_kind, write_kind, valued_read_kind}
 use Rattle.entries.specs.Bytes.{body_bytes, bytes_of}
-use Rattle.entries.specs.Reading.{stop}
 use Rattle.entries.specs.Recording.{Entry, Recording}
 use Rattle.reader.specs.Calls.{checked_of}
 use Rattle.reader.specs.Parse.{parse}
@@ -58,12 +57,12 @@ pub record Kinds : Type 0 where
   pub bare_first : length (body_bytes (first (op read_kind 0))) ≡ 24
   pub bare_second : length (body_bytes (second (op read_kind 0))) ≡ 32
   pub bare_size : length bare ≡ 98
-  pub bare_taken : checked_of (parse bare) ≡ stop 0 0
+  pub bare_taken : checked_of (parse bare) ≡ Ok tt
   -- kind 6: 28, 36 and 106
   pub valued_first : length (body_bytes (first (op valued_read_kind 7))) ≡ 28
   pub valued_second : length (body_bytes (second (op valued_read_kind 7))) ≡ 36
   pub valued_size : length valued ≡ 106
-  pub valued_taken : checked_of (parse valued) ≡ stop 0 0
+  pub valued_taken : checked_of (parse valued) ≡ Ok tt
   -- 10 records each: the head, 2 sections, 3 orderings, 4 accesses (document 02, F-5); none for a memory of one entry
   pub bare_records : (opened_of bare (3 ∷ 3 ∷ [])).records ≡ 10
   pub valued_records : (opened_of valued (3 ∷ 3 ∷ [])).records ≡ 10
@@ -74,7 +73,7 @@ pub record Kinds : Type 0 where
   pub bare_memory : (bench bare (0 ∷ 1 ∷ 0 ∷ 1 ∷ [])).memory ≡ 9 ∷ 0 ∷ []
   pub valued_memory : (bench valued (0 ∷ 1 ∷ 0 ∷ 1 ∷ [])).memory ≡ 9 ∷ 0 ∷ []
   -- the reader accepts any value; task 1's read of 8 gives 16 while its ordering at 70 holds it up, then 19 at its own record, and it stays ready
-  pub damaged_taken : checked_of (parse damaged) ≡ stop 0 0
+  pub damaged_taken : checked_of (parse damaged) ≡ Ok tt
   pub damaged_held : (answer_of damaged (bench damaged []) 1).number ≡ 16
   pub damaged_differs : answer_of damaged (bench damaged (0 ∷ [])) 1 ≡ refused_step (bench damaged (0 ∷ [])).run 19 78
   pub damaged_memory : (bench damaged (0 ∷ 1 ∷ [])).memory ≡ 7 ∷ 0 ∷ []

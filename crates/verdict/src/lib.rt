@@ -12,7 +12,6 @@ ghost use Rattle.verdict.specs.Streams.{streams_of};
 ghost use Rattle.verdict.specs.Text.{steps_of, yes_of, no_of, text_of, most};
 ghost use Rattle.waits.specs.Waits.{waits_most};
 
-use codec::number::NO_ORDER;
 use playability::playable_settled;
 use playability::settle::settle;
 use replay_lines::{LONGEST, Written, blank_order, put_refusal, silent};
@@ -35,8 +34,8 @@ fn put_steps(out: &mut [u8], at: usize, order: &[u8]) -> usize
     ensures { Appended (steps_of order.now) out.old at out.new result }
 {
     let mut end = at;
-    for i in 0..order.len() {
-        end = put_field(out, end, order[i] as u64, b'\n');
+    for task in order {
+        end = put_field(out, end, *task as u64, b'\n');
     }
     end
 }
@@ -66,21 +65,22 @@ fn put_answer(bytes: &[u8], out: &mut [u8], why: &mut [u8]) -> Written
     ensures appended { Appended (text_of bytes.now) out.old 0 out.new result.text }
     ensures appended_2 { Appended (reasons_of bytes.now) why.old 0 why.new result.reasons }
 {
-    let s = settle(bytes);
+    let s = match settle(bytes) {
+        Ok(s) => s,
+        Err(refusal) => {
+            let text = put_refusal(out, 0, refusal.reason.number(), refusal.offset);
+            return Written { text, reasons: 0 };
+        }
+    };
     let mut order = blank_order();
-    let a = playable_settled(s, bytes, &mut order);
+    let a = playable_settled(Ok(s), bytes, &mut order);
     if a.number == 0 {
-        let steps = a.steps;
-        let text = put_yes(out, &order[..steps]);
+        let text = put_yes(out, &order[..a.steps]);
         return Written { text, reasons: 0 };
     }
-    if a.number == NO_ORDER {
-        let text = put_no(out, a.task, a.offset);
-        let reasons = put_waits(bytes, s.run, why);
-        return Written { text, reasons };
-    }
-    let text = put_refusal(out, 0, a.number, a.offset);
-    Written { text, reasons: 0 }
+    let text = put_no(out, a.task, a.offset);
+    let reasons = put_waits(bytes, s.run, why);
+    Written { text, reasons }
 }
 
 // The text of a recording from the start of `out`, and why it cannot be played to its end from the start of `why`. Nothing if one of them

@@ -1,6 +1,6 @@
 -- The recorder's side of demand 3: after any calls from an accepted opening the recording reads as the history of the accepted accesses,
 -- and the box's memory is that history's reference memory.
-use Rattle.std.specs.Prelude.{List, ◌≡◌, refl, ℕ, ◌+◌, ◌≤◌, ◌<◌, length, get_or, take}
+use Rattle.std.specs.Prelude.{Ok, List, ◌≡◌, refl, ℕ, ◌+◌, ◌≤◌, ◌<◌, length, get_or, take}
 use Rattle.std.proofs.Common.{sym, ◌∙◌, arith}
 use Rattle.codec.specs.Encode.{head}
 use Rattle.codec.specs.Laws.Encode.{head-length}
@@ -9,7 +9,6 @@ use Rattle.codec.specs.Head.{head_length}
 use Rattle.entries.specs.Bytes.{bytes_of}
 use Rattle.reader.specs.Parse.{Parsed, parse}
 use Rattle.reader.specs.Range.{HeadIn, InRange}
-use Rattle.entries.specs.Reading.{read}
 use Rattle.reader.specs.Laws.Roundtrip.{parse_back, spans_of}
 use Rattle.history.specs.Memory.{reference}
 use Rattle.tracker.proofs.Laws.Tracks.{tracks_sound, tracks_tasks, tracks_memory}
@@ -80,7 +79,7 @@ module _ (o : Opening) (accepted : (opened_by o).answer.number ≡ 0) where
       unfolding bytes_of
       recording-bytes = rw (head_wrote, packed-is follows outs sections 0 o.tasks (omega arith))
 
-      pub recording-parsed : parse (recording_of o asked outs) ≡ read (parsed_by o asked)
+      pub recording-parsed : parse (recording_of o asked outs) ≡ Ok (parsed_by o asked)
       recording-parsed = rw recording-bytes (parse_back (recording_by o asked) in_range)
 
       pub box_matches : Matches (start_of o) (recorded o asked) (recording_of o asked outs) (parsed_by o asked)

@@ -1,9 +1,8 @@
 -- A box's recording played with always the lowest ready task: every step is taken, as many as accesses were recorded, and then no task has
 -- any left.
-use Rattle.std.specs.Prelude.{true, false, List, [], ◌∷◌, ◌≡◌, refl, ℕ, ◌+◌, eqb, length}
+use Rattle.std.specs.Prelude.{Ok, true, false, List, [], ◌∷◌, ◌≡◌, refl, ℕ, ◌+◌, eqb, length}
 use Rattle.std.proofs.Common.{inl, inr, sym, ap, subst, ◌∙◌, arith, eq-eqb, ne_eqb}
 use Rattle.codec.specs.Number.{differs}
-use Rattle.entries.specs.Reading.{read as reads}
 use Rattle.entries.specs.Recording.{Recording}
 use Rattle.reader.specs.Parse.{Parsed, parse}
 use Rattle.replayer.proofs.Laws.OpenOf.{opened-stands, open_accepts}
@@ -50,7 +49,7 @@ not-differs n e r = go (r (ne_eqb n 0 (λ z. omega arith)))
     go (inr (inr p)) = omega arith
 
 module _ (o : Opening) (asked : List Asked) (outs : ℕ → List ℕ) (lent : List ℕ) (a : Accepted o asked outs lent) (each : length lent ≡ cells_by o)
-    (p : Parsed) (e : parse (recording_of o asked outs) ≡ reads p) (same : p.recording ≡ recording_by o asked) where
+    (p : Parsed) (e : parse (recording_of o asked outs) ≡ Ok p) (same : p.recording ≡ recording_by o asked) where
   abbrev b : List ℕ
   b = recording_of o asked outs
 

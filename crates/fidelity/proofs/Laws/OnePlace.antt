@@ -1,7 +1,6 @@
 -- Two plays of a box's recording whose steps are all taken: where each task has done the same number of accesses they are the same play.
-use Rattle.std.specs.Prelude.{List, ◌≡◌, ℕ, length}
+use Rattle.std.specs.Prelude.{Ok, List, ◌≡◌, ℕ, length}
 use Rattle.std.proofs.Common.{sym, ap, ◌∙◌}
-use Rattle.entries.specs.Reading.{read as reads}
 use Rattle.pending.specs.Run.{done_of}
 use Rattle.reader.specs.Parse.{Parsed, parse}
 use Rattle.replayer.specs.OpenOf.{opened_run}
@@ -17,7 +16,7 @@ use Rattle.fidelity.specs.Paused.{AtOnePlace}
 use Rattle.fidelity.specs.Statement.{Accepted, done}
 
 module _ (o : Opening) (asked : List Asked) (outs : ℕ → List ℕ) (lent : List ℕ) (a : Accepted o asked outs lent) (each : length lent ≡ cells_by o)
-    (p : Parsed) (e : parse (recording_of o asked outs) ≡ reads p) (same : p.recording ≡ recording_by o asked) where
+    (p : Parsed) (e : parse (recording_of o asked outs) ≡ Ok p) (same : p.recording ≡ recording_by o asked) where
   abbrev b : List ℕ
   b = recording_of o asked outs
 

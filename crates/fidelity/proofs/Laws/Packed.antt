@@ -1,6 +1,6 @@
 -- The sections of the box's logs: each log is a body in range, so a section is accepted if the output has room; and what accepted
 -- sections wrote, joined together, is the sections of the tasks' bodies.
-use Rattle.std.specs.Prelude.{List, [], ◌≡◌, eqb, get_or, take}
+use Rattle.std.specs.Prelude.{Ok, List, [], ◌≡◌, eqb, get_or, take}
 use Rattle.std.proofs.Math.Path.{refl}
 use Rattle.std.proofs.Common.{sym, ◌∙◌, arith, length-append}
 use Prim.Native.Nat.{ℕ, zero, suc, ◌+◌, ◌≤◌, ◌<◌}
@@ -15,7 +15,6 @@ use Rattle.entries.specs.Body.{walk_of}
 use Rattle.entries.specs.Bytes.{body_bytes, sections_bytes}
 use Rattle.reader.specs.Laws.Joined.{reads_walk}
 use Rattle.reader.specs.Range.{BodyIn, BodiesIn}
-use Rattle.entries.specs.Reading.{stop}
 use Rattle.reader.specs.Laws.Roundtrip.{body_back}
 use Rattle.history.specs.History.{History}
 use Rattle.tracker.specs.declared.State.{State}
@@ -71,7 +70,7 @@ module _ {start : ℕ → ℕ} {tasks objects fields : ℕ} {b : Box} {h : Histo
     body_in : BodyIn (limits tasks objects fields t) (filed_of fields t h)
     body_in = record { entries = f.entries t; count = omega (arith, few); size = rw (← f.logs t) log_size }
 
-    log_walked : walk_of (limits_of b.state t) 0 (b.logs t) (done_of b.state t) 0 ≡ stop 0 0
+    log_walked : walk_of (limits_of b.state t) 0 (b.logs t) (done_of b.state t) 0 ≡ Ok tt
     log_walked =
         let m : limits tasks objects fields t ≡ limits_of b.state t = rw (f.tasks_are, f.objects_are, f.fields_are) in
         rw (f.logs t, done-is t, ← m) (reads_walk (limits tasks objects fields t) 0 (body_bytes (filed_of fields t h)) (filed_of fields t h) 0

@@ -1,5 +1,5 @@
 -- A run over bytes corresponds to the replay of the history they record: the relation between the two, which every step keeps.
-use Rattle.std.specs.Prelude.{true, List, [], ◌∷◌, ◌≡◌, ℕ, suc, ◌<◌, length, get_or}
+use Rattle.std.specs.Prelude.{Err, true, List, [], ◌∷◌, ◌≡◌, ℕ, suc, ◌<◌, length, get_or}
 use Rattle.std.proofs.Math.Option.{Option, some, none}
 use Rattle.std.proofs.Math.Path.{refl}
 use Rattle.std.proofs.Common.{arith}
@@ -11,9 +11,8 @@ use Rattle.history.proofs.Laws.Access.{access_bound}
 use Rattle.history.specs.Replay.{State, next, all_met, is_ready}
 use Rattle.history.proofs.Laws.Ready.{next-access, next-none}
 use Rattle.history.specs.Laws.Run.{Kept}
-use Rattle.entries.specs.declared.Checked.{Checked}
+use Rattle.entries.specs.declared.Refusal.{Refusal}
 use Rattle.pending.specs.declared.TaskRun.{TaskRun}
-use Rattle.pending.specs.declared.next.Next.TheVariants.{Refused}
 use Rattle.replayer.specs.Laws.Left.{Left}
 use Rattle.replayer.proofs.Laws.Left.{left-entry}
 use Rattle.pending.specs.Met.{all_met as all_met_by}
@@ -54,7 +53,7 @@ module _ (start : ℕ → ℕ) (h : History) (bytes : List ℕ) (tasks cells fie
           ) (met-same b.run.runs s.done e.orderings i.done)
 
   -- what is next for a task that has accesses left can be read
-  pub sim_reads : has_left b.run t ≡ true → (c : Checked) → next_of b.run bytes t ≡ Refused c → ⊥
+  pub sim_reads : has_left b.run t ≡ true → (c : Refusal) → next_of b.run bytes t ≡ Err c → ⊥
   unfolding next_of
   sim_reads q c r = go (next t (s.done t) h) refl
     where

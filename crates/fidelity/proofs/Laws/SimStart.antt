@@ -1,8 +1,8 @@
 -- After an accepted replay opening of bytes that record a history, the run is where the history's replay starts.
-use Rattle.std.specs.Prelude.{List, ◌≡◌, refl, ℕ, length}
+use Rattle.std.specs.Prelude.{Ok, List, ◌≡◌, refl, ℕ, length}
 use Rattle.std.proofs.Common.{sym, ap, ◌∙◌}
 use Rattle.reader.specs.Parse.{Parsed}
-use Rattle.entries.specs.Reading.{read}
+use Rattle.entries.specs.Reading.{Reading}
 use Rattle.history.specs.History.{History}
 use Rattle.history.proofs.Laws.Run.{kept_fresh}
 use Rattle.history.specs.Replay.{fresh}
@@ -26,7 +26,7 @@ module _ (start : ℕ → ℕ) (h : History) (bytes : List ℕ) (p : Parsed) (m 
     entries : length memory ≡ cell_count (opened_run p)
     entries =
         let o : Opens bytes memory = open_accepted bytes memory z in
-        let e : read o.parsed ≡ read p = sym o.reads ∙ m.reads in
+        let e : ◌≡◌ {A = Reading Parsed} (Ok o.parsed) (Ok p) = sym o.reads ∙ m.reads in
         let q : o.parsed ≡ p = cc in
         rw q at o.entries
 

@@ -1,5 +1,5 @@
 -- One step over bytes and one step of the history's replay: both are taken or neither is, and the relation between the two is kept.
-use Rattle.std.specs.Prelude.{true, false, List, ◌∷◌, ◌≡◌, refl, ℕ, suc, ◌+◌, ◌<◌, length, get_or}
+use Rattle.std.specs.Prelude.{Ok, true, false, List, ◌∷◌, ◌≡◌, refl, ℕ, suc, ◌+◌, ◌<◌, length, get_or}
 use Rattle.std.proofs.Math.Option.{some}
 use Rattle.std.proofs.Common.{inl, inr, sym, ◌∙◌, arith, eq-eqb, ne_eqb, eqb-true, get_or-set_same, get_or-set_other}
 use Rattle.std.proofs.Math.Path.{ap}
@@ -9,7 +9,7 @@ use Rattle.codec.specs.declared.Op.{Op}
 use Rattle.codec.specs.Laws.Decide.{never}
 use Rattle.codec.specs.Limit.{max_tasks}
 use Rattle.entries.specs.Bytes.{entry_length}
-use Rattle.entries.specs.Reading.{read}
+use Rattle.entries.specs.Reading.{Reading}
 use Rattle.entries.specs.Recording.{Entry as FileEntry}
 use Rattle.history.specs.Entry.{Act, Entry}
 use Rattle.history.specs.History.{History, count, At}
@@ -91,7 +91,7 @@ module _ (start : ℕ → ℕ) (h : History) (bytes : List ℕ) (tasks cells fie
 
     entry-is : w.entry ≡ filed fields e
     entry-is =
-        let p : read w.entry ≡ read (filed fields e) = sym w.reads ∙ left-entry b.run bytes t (filed fields e) (left_of fields t (suc (s.done t)) h) left-now in
+        let p : ◌≡◌ {A = Reading FileEntry} (Ok w.entry) (Ok (filed fields e)) = sym w.reads ∙ left-entry b.run bytes t (filed fields e) (left_of fields t (suc (s.done t)) h) left-now in
         cc
 
     op-is : op ≡ filed_op fields e.act

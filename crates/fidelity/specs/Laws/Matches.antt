@@ -1,7 +1,6 @@
 -- Bytes that read as a recording of a history: the replay's side of demand 3 assumes this, and the recorder's side proves it.
-use Rattle.std.specs.Prelude.{List, [], ◌≡◌, ℕ, ◌<◌, get_or, length}
+use Rattle.std.specs.Prelude.{Ok, List, [], ◌≡◌, ℕ, ◌<◌, get_or, length}
 use Rattle.reader.specs.Parse.{Parsed, parse}
-use Rattle.entries.specs.Reading.{read}
 use Rattle.history.specs.Entry.{Act, Entry}
 use Rattle.history.specs.History.{History, At}
 use Rattle.history.specs.Sound.{Sound}
@@ -15,7 +14,7 @@ Recordable (Act.write c v) = Unit {0}
 Recordable (Act.acquire n) = ⊥
 
 pub record Matches (start : ℕ → ℕ) (h : History) (b : List ℕ) (p : Parsed) : Type 0 where
-  pub reads : parse b ≡ read p
+  pub reads : parse b ≡ Ok p
   pub sound : Sound start h
   pub tasks_low : {e : Entry} {g : History} → At e g h → e.task < p.recording.tasks
   pub recordable : {e : Entry} {g : History} → At e g h → Recordable e.act

@@ -4,7 +4,7 @@ use Rattle.std.proofs.Common.{sym, ap, ◌∙◌, append_assoc, append-nil, add-
 use borrow.Author.Tests.{eq-eqb, ne_eqb, eqb-false}
 use Rattle.codec.specs.Laws.Decide.{passes, fails, split}
 use Rattle.entries.specs.declared.Checked.{Checked}
-use Rattle.entries.specs.Reading.{stop}
+use Rattle.entries.specs.Reading.{numbered}
 use Rattle.replayer.specs.declared.Stepped.{Stepped}
 use Rattle.replayer.proofs.Laws.StepOf.{refused-stays}
 use Rattle.replayer.specs.StepOf.{step_of}
@@ -51,12 +51,12 @@ module _ (b : List ℕ) (most : ℕ) (counts : List ℕ) (x₀ : Play) (steps ou
 
   module _ (x : Play) (i : ℕ) (out : List ℕ) (at : ℕ) (w : Following b most counts x₀ steps out₀ x i out at) where
     -- nothing more is written
-    ended : followed_of b most counts x (drop i steps) ≡ resting x → Stands (followed_of b most counts x₀ steps) out₀ 0 x (stop 0 0) out at
+    ended : followed_of b most counts x (drop i steps) ≡ resting x → Stands (followed_of b most counts x₀ steps) out₀ 0 x (numbered 0 0) out at
     ended e =
         let q : followed_of b most counts x₀ steps ≡ in_front w.text (resting x) = w.rest ∙ ap (in_front w.text) e in
         record { lines = rw (q, append-nil) w.written; play = rw q; stopped = rw q }
 
-    pub follow_ends : length steps ≤ i → Stands (followed_of b most counts x₀ steps) out₀ 0 x (stop 0 0) out at
+    pub follow_ends : length steps ≤ i → Stands (followed_of b most counts x₀ steps) out₀ 0 x (numbered 0 0) out at
     unfolding followed_of
     follow_ends h = ended (rw (drop_of_length-le steps {i = i} h))
 
@@ -64,7 +64,7 @@ module _ (b : List ℕ) (most : ℕ) (counts : List ℕ) (x₀ : Play) (steps ou
       next : drop i steps ≡ get_or steps i 0 ∷ drop (i + 1) steps
       next = rw add-one (drop-cons steps i 0 h)
 
-      pub follow_over : is_over most counts x ≡ true → Stands (followed_of b most counts x₀ steps) out₀ 0 x (stop 0 0) out at
+      pub follow_over : is_over most counts x ≡ true → Stands (followed_of b most counts x₀ steps) out₀ 0 x (numbered 0 0) out at
       unfolding followed_of
       follow_over o = ended (rw (next, o))
 
@@ -103,15 +103,15 @@ module _ (b : List ℕ) (most : ℕ) (counts : List ℕ) (x₀ : Play) (steps ou
 
 -- the three outcomes of a step, by its answer and the memory after it
 module _ (b : List ℕ) (x : Play) (t : ℕ) (s : Stepped) (e : s ≡ answer_at b x t) (m : List ℕ) (g : m ≡ (step_of x.run b x.memory t).memory) (out : List ℕ) (at : ℕ) where
-  taken_so : s.number ≡ 0 → tried_of b x t ≡ record { text = line_of t s; play = stepped_by b x t; stopped = stop 0 0 }
+  taken_so : s.number ≡ 0 → tried_of b x t ≡ record { text = line_of t s; play = stepped_by b x t; stopped = numbered 0 0 }
   unfolding tried_of
   taken_so z = rw (← e, eq-eqb s.number 0 z)
 
-  passed_so : (s.number ≡ 0 → ⊥) → is_passed s.number ≡ true → tried_of b x t ≡ record { text = turned_line t s.number; play = x; stopped = stop 0 0 }
+  passed_so : (s.number ≡ 0 → ⊥) → is_passed s.number ≡ true → tried_of b x t ≡ record { text = turned_line t s.number; play = x; stopped = numbered 0 0 }
   unfolding tried_of
   passed_so z p = rw (← e, ne_eqb s.number 0 z, p)
 
-  stops_so : (s.number ≡ 0 → ⊥) → is_passed s.number ≡ false → tried_of b x t ≡ record { text = []; play = x; stopped = stop s.number s.offset }
+  stops_so : (s.number ≡ 0 → ⊥) → is_passed s.number ≡ false → tried_of b x t ≡ record { text = []; play = x; stopped = numbered s.number s.offset }
   unfolding tried_of
   stops_so z p = rw (← e, ne_eqb s.number 0 z, p)
 
@@ -122,18 +122,18 @@ module _ (b : List ℕ) (x : Play) (t : ℕ) (s : Stepped) (e : s ≡ answer_at 
   passed_room z p = rw (passed_so z p)
 
   pub tried_taken : s.number ≡ 0 → (out' : List ℕ) (end : ℕ) → Appended (line_of t s) out at out' end
-      → Stands (tried_of b x t) out at (record { run = s.run; memory = m; steps = x.steps + 1 }) (stop 0 0) out' end
+      → Stands (tried_of b x t) out at (record { run = s.run; memory = m; steps = x.steps + 1 }) (numbered 0 0) out' end
   tried_taken z out' end p = record { lines = rw (taken_so z) p; play = rw (taken_so z, ← e, ← g); stopped = rw (taken_so z) }
 
   stays : (s.number ≡ 0 → ⊥) → m ≡ x.memory
   stays z = g ∙ (refused-stays x.run b x.memory t (λ k. z (ap (λ (q : Stepped). q.number) e ∙ k))).after
 
   pub tried_passed : (s.number ≡ 0 → ⊥) → is_passed s.number ≡ true → (out' : List ℕ) (end : ℕ) → Appended (turned_line t s.number) out at out' end
-      → Stands (tried_of b x t) out at (record { run = x.run; memory = m; steps = x.steps }) (stop 0 0) out' end
+      → Stands (tried_of b x t) out at (record { run = x.run; memory = m; steps = x.steps }) (numbered 0 0) out' end
   tried_passed z p out' end q = record { lines = rw (passed_so z p) q; play = rw (passed_so z p, stays z); stopped = rw (passed_so z p) }
 
   pub tried_stops : (s.number ≡ 0 → ⊥) → is_passed s.number ≡ false
-      → Stands (tried_of b x t) out at (record { run = x.run; memory = m; steps = x.steps }) (stop s.number s.offset) out at
+      → Stands (tried_of b x t) out at (record { run = x.run; memory = m; steps = x.steps }) (numbered s.number s.offset) out at
   tried_stops z p = record { lines = rw (stops_so z p) (nothing out at); play = rw (stops_so z p, stays z); stopped = rw (stops_so z p) }
 
 -- a step adds at most one to the steps taken
@@ -148,7 +148,7 @@ pub next-steps : (b counts : List ℕ) (x : Play) (t : ℕ) → (next_by b count
 next-steps b counts x t = elim (split (is_there counts x.run t)) [ passes p ↦ rw p (omega arith) | fails p ↦ rw p (tried_steps b x t) ]
 
 -- a step that does not stop it has nothing to say of a stop
-tried_goes : (b : List ℕ) (x : Play) (t : ℕ) → (tried_of b x t).stopped.number ≡ 0 → (tried_of b x t).stopped ≡ stop 0 0
+tried_goes : (b : List ℕ) (x : Play) (t : ℕ) → (tried_of b x t).stopped.number ≡ 0 → (tried_of b x t).stopped ≡ numbered 0 0
 unfolding tried_of
 tried_goes b x t z = elim (split (takes_step b x t)) [
   | passes p ↦ rw p
@@ -156,11 +156,11 @@ tried_goes b x t z = elim (split (takes_step b x t)) [
 ]
 
 module _ (b counts : List ℕ) (x : Play) (t : ℕ) where
-  pub next_goes : (next_by b counts x t).stopped.number ≡ 0 → (next_by b counts x t).stopped ≡ stop 0 0
+  pub next_goes : (next_by b counts x t).stopped.number ≡ 0 → (next_by b counts x t).stopped ≡ numbered 0 0
   next_goes z = elim (split (is_there counts x.run t)) [ passes p ↦ rw p | fails p ↦ rw p (tried_goes b x t (rw p at z)) ]
 
   -- whether its task is at its count
-  pub next_rests : is_there counts x.run t ≡ true → (out : List ℕ) (at : ℕ) → Stands (next_by b counts x t) out at x (stop 0 0) out at
+  pub next_rests : is_there counts x.run t ≡ true → (out : List ℕ) (at : ℕ) → Stands (next_by b counts x t) out at x (numbered 0 0) out at
   next_rests p out at = record { lines = rw p (nothing out at); play = rw p; stopped = rw p }
 
   pub next_tries : is_there counts x.run t ≡ false → next_by b counts x t ≡ tried_of b x t

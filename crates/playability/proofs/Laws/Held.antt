@@ -1,5 +1,5 @@
 -- The lowest task that has accesses left: one pass of the search, and what it finds.
-use Rattle.std.specs.Prelude.{◌≡◌, true, false, List}
+use Rattle.std.specs.Prelude.{Option, Some, None, ◌≡◌, true, false, List}
 use Rattle.std.proofs.Math.Path.{refl}
 use Rattle.std.proofs.Common.{ap, add-one, lt-ltb, le-ltb}
 use Prim.Native.Nat.{ℕ, zero, suc, ◌+◌, ◌-◌, ◌≤◌, ◌<◌}
@@ -14,8 +14,7 @@ use Rattle.pending.specs.Laws.Look.{OneTask}
 use Rattle.pending.proofs.Laws.Look.{look_unmet}
 use Rattle.pending.specs.Unmet.{unmet_next}
 use Rattle.replayer.specs.ReadyOf.{has_left}
-use Rattle.playability.specs.declared.hold.Hold.{Hold}
-use Rattle.playability.specs.declared.hold.Hold.TheVariants.{Free, Held}
+use Rattle.playability.specs.declared.hold.Held.{Held}
 use Rattle.playability.specs.Hold.{offset_in, hold_from, hold_of}
 use Rattle.playability.specs.Laws.Held.{HoldIs, free, held}
 
@@ -35,11 +34,11 @@ module _ (b : List ℕ) (r : Run) (n i : ℕ) where
   unfolding hold_from
   hold_on h q = let e : n - i ≡ suc (n - (i + 1)) = omega arith in rw (e, q, add-one)
 
-  pub hold_found : i < n → has_left r i ≡ true → hold_from b r i (n - i) ≡ Held i (offset_in (unmet_next r b i))
+  pub hold_found : i < n → has_left r i ≡ true → hold_from b r i (n - i) ≡ Some (record { task = i; offset = offset_in (unmet_next r b i) })
   unfolding hold_from
   hold_found h q = let e : n - i ≡ suc (n - (i + 1)) = omega arith in rw (e, q)
 
-  pub hold_end : n ≤ i → hold_from b r i (n - i) ≡ Free
+  pub hold_end : n ≤ i → hold_from b r i (n - i) ≡ None
   unfolding hold_from
   hold_end h = let e : n - i ≡ 0 = omega arith in rw e
 
@@ -49,7 +48,7 @@ module _ (b : List ℕ) (r : Run) where
   before i n q g zero h = rw add-zero q
   before i n q g (suc u) h = let e : i + suc u ≡ suc i + u = omega arith in rw e (g u (omega arith))
 
-  more : (i n : ℕ) (k : Hold) → has_left r i ≡ false → HoldIs b r (suc i) n k → HoldIs b r i (suc n) k
+  more : (i n : ℕ) (k : Option Held) → has_left r i ≡ false → HoldIs b r (suc i) n k → HoldIs b r i (suc n) k
   more i n k q (held t h l g f) =
       let e : i + suc t ≡ suc i + t = omega arith in
       held (suc t) (omega arith) (rw e l) (before i t q g) (rw e f)
@@ -67,7 +66,7 @@ module _ (b : List ℕ) (r : Run) where
   hold_is = hold_from_lem 0 r.tasks
 
   -- no task has accesses left
-  pub hold_free : ((t : ℕ) → t < r.tasks → has_left r t ≡ false) → hold_of b r ≡ Free
+  pub hold_free : ((t : ℕ) → t < r.tasks → has_left r t ≡ false) → hold_of b r ≡ None
   hold_free g = elim hold_is [
     | held t h l k f ↦ absurd (let e : 0 + t ≡ t = omega arith in never (has_left r t) (rw e at l) (g t h))
     | free k f ↦ f

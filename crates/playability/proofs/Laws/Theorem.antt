@@ -1,15 +1,12 @@
 -- F-2, proved: 18 is answered exactly if there is no order of all accesses among all lists of tasks, and the order that is written is one.
-use Rattle.std.specs.Prelude.{◌≡◌, refl, true, false, List, [], ◌∷◌, ◌++◌, ℕ, ◌+◌, ◌*◌, ◌≤◌, ◌<◌, leb, length, get_or}
+use Rattle.std.specs.Prelude.{None, Err, Ok, ◌≡◌, refl, true, false, List, [], ◌∷◌, ℕ, ◌+◌, ◌*◌, ◌≤◌, ◌<◌, leb, length, get_or}
 use Rattle.std.proofs.Common.{sym, ap, ◌∙◌, le_antisymm, arith, ltb-true, ltb-false, leb-true, leb-false}
 use Rattle.std.proofs.Math.Decide.{dec_lt}
 use Rattle.std.proofs.Math.ListN.{get_or-eq_default}
 use Rattle.codec.specs.declared.Position.{Position}
 use Rattle.codec.specs.Kind.{ordering_kind, length_of}
 use Rattle.codec.specs.Laws.Decide.{passes, fails, split}
-use Rattle.codec.specs.Number.{no_room, no_order}
-use Rattle.codec.specs.Store.{store}
-use Rattle.entries.specs.Accesses.{accesses_in}
-use Rattle.entries.specs.Reading.{Reading, refused, read}
+use Rattle.entries.specs.Reading.{Reading}
 use Rattle.entries.specs.Recording.{Entry, no_entry}
 use Rattle.history.specs.Closed.{Met}
 use Rattle.reader.specs.Laws.Numbered.{parse-numbered}
@@ -23,10 +20,9 @@ use Rattle.replayer.specs.OpenOf.{opened_run}
 use Rattle.replayer.specs.ReadyOf.{has_left}
 use Rattle.scheduler.specs.Schedule.{schedule_of, settled_of}
 use Rattle.playability.specs.declared.Playability.{Playability}
-use Rattle.playability.specs.declared.hold.Hold.TheVariants.{Free}
 use Rattle.playability.specs.Hold.{offset_in, hold_of}
-use Rattle.playability.specs.Order.{times, body_of, Allowed, Plays, LowestFirst, StaysHeld}
-use Rattle.playability.specs.PlayableOf.{PlayableOutcome, refused_playable}
+use Rattle.playability.specs.Order.{times, body_of, Allowed, Plays, StaysHeld}
+use Rattle.playability.specs.PlayableOf.{PlayableOutcome}
 use Rattle.playability.specs.Statement.{HeldUp, answer, after, Answers}
 use Rattle.playability.proofs.Laws.Counted.{plays-length}
 use Rattle.playability.specs.Laws.Held.{held, free}
@@ -67,7 +63,7 @@ parted runs d g at (p ∷ ps) h = elim (split (leb p.number (done_of runs p.task
       }
 ]
 
-module _ (b : List ℕ) (p : Parsed) (e : parse b ≡ read p) where
+module _ (b : List ℕ) (p : Parsed) (e : parse b ≡ Ok p) where
   abbrev bodies : List (List Entry)
   bodies = p.recording.bodies
 
@@ -153,9 +149,9 @@ module _ (b : List ℕ) (p : Parsed) (e : parse b ≡ read p) where
       place = ap offset_in next-unmet ∙ ap (λ (o : ℕ). o + 8 * length parts.first) (reached.place t h);
     }
 
-module _ (b out : List ℕ) (p : Parsed) (e : parse b ≡ read p) where
+module _ (b out : List ℕ) (p : Parsed) (e : parse b ≡ Ok p) where
   -- no task has accesses left: the output is long enough, or not
-  with_order : Plays p.recording.bodies (order b p e) → hold_of b (stood b p e) ≡ Free → Result b out p
+  with_order : Plays p.recording.bodies (order b p e) → hold_of b (stood b p e) ≡ None → Result b out p
   with_order x f =
       let n = plays-length p.recording.bodies (order b p e) x in
       elim (dec_lt (length out) (length (order b p e))) [
@@ -172,7 +168,7 @@ module _ (b out : List ℕ) (p : Parsed) (e : parse b ≡ read p) where
     | held t h l g f ↦
         let z : 0 + t ≡ t = omega arith in
         let m : has_left (stood b p e) t ≡ true = rw z at l in
-        let k = task-held b out p e _ _ f in
+        let k = task-held b out p e _ f in
         none (0 + t) _ (ap (λ (o : PlayableOutcome). o.answer) k) (ap (λ (o : PlayableOutcome). o.out) k)
         (rw z (held_up b p e t h m (λ u j. let y : 0 + u ≡ u = omega arith in rw y at (g u j)))) (held_none b p e t h m)
     | free g f ↦ with_order (free_plays b p e (λ t h. let y : 0 + t ≡ t = omega arith in rw y at (g t h))) f
@@ -187,8 +183,8 @@ number_of e = ap (λ (o : Playability). o.number) e
 
 module _ (b out : List ℕ) where
   kept : (x : Reading Parsed) → parse b ≡ x → ((answer b out).number ≡ 0 → ⊥) → (after b out ≡ out) × ((answer b out).steps ≡ 0)
-  kept (refused c) e z = (ap (λ (o : PlayableOutcome). o.out) (bytes-refused b out c e), ap (λ (o : PlayableOutcome). o.answer.steps) (bytes-refused b out c e))
-  kept (read p) e z = elim (result b out p e) [
+  kept (Err c) e z = (ap (λ (o : PlayableOutcome). o.out) (bytes-refused b out c e), ap (λ (o : PlayableOutcome). o.answer.steps) (bytes-refused b out c e))
+  kept (Ok p) e z = elim (result b out p e) [
     | none t o a k h n ↦ (k, ap (λ (x : Playability). x.steps) a)
     | short order a k x l ↦ (k, ap (λ (x : Playability). x.steps) a)
     | room order a k x m l ↦ absurd (z (number_of a))

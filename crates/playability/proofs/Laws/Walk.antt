@@ -1,6 +1,6 @@
 -- The order of "lowest ready task first" through a recording: it is allowed, the lowest ready task is next at each place, and no task is
 -- ready after it. A run's test for ready tasks and `Order.Ready` agree.
-use Rattle.std.specs.Prelude.{◌≡◌, refl, true, List, [], ◌∷◌, ◌++◌, ℕ, ◌+◌, ◌≤◌, ◌<◌, leb, length, get_or, take}
+use Rattle.std.specs.Prelude.{Ok, ◌≡◌, refl, true, List, [], ◌∷◌, ◌++◌, ℕ, ◌+◌, ◌≤◌, ◌<◌, leb, length, get_or, take}
 use Rattle.std.proofs.Math.Path.{sym}
 use Rattle.std.proofs.Common.{ap, ◌∙◌, arith, length-append}
 use Rattle.std.proofs.Math.Decide.{dec_lt, ℕ_discrete}
@@ -11,7 +11,6 @@ use Rattle.std.proofs.Math.Seq.{take-append_seam, get_or-append_seam}
 use Rattle.codec.specs.declared.Op.{Op}
 use Rattle.codec.specs.declared.Position.{Position}
 use Rattle.codec.specs.Laws.Decide.{both_pass, never}
-use Rattle.entries.specs.Reading.{read}
 use Rattle.entries.specs.Recording.{Entry, no_entry}
 use Rattle.reader.specs.Calls.{no_span}
 use Rattle.reader.specs.Laws.Standing.{parse-stands}
@@ -24,7 +23,6 @@ use Rattle.pending.proofs.Laws.Next.{open_met}
 use Rattle.pending.specs.Met.{all_met}
 use Rattle.pending.specs.Next.{next_of}
 use Rattle.pending.specs.Run.{task_at, done_of, moved_of}
-use Rattle.replayer.specs.Laws.Along.{Along}
 use Rattle.replayer.proofs.Laws.Along.{along_opened, along_entry, along_moved, along_place}
 use Rattle.replayer.proofs.Laws.OpenOf.{opened-stands}
 use Rattle.replayer.specs.Laws.ReadyOf.{ready, nowhere}
@@ -35,7 +33,7 @@ use Rattle.replayer.specs.ReadyOf.{has_left, is_ready, ready_of}
 use Rattle.scheduler.specs.Schedule.{schedule_of, settled_of}
 use Rattle.scheduler.specs.Laws.Lowest.{IsNext}
 use Rattle.scheduler.proofs.Laws.Settled.{settled_keeps, settled_ends}
-use Rattle.playability.specs.Order.{times, body_of, Ready, Allowed, LowestFirst, size_of}
+use Rattle.playability.specs.Order.{times, body_of, Ready, size_of}
 use Rattle.playability.proofs.Laws.Order.{times-own, times-other, times_none, Stops, size-more}
 use Rattle.playability.specs.Laws.Walk.{Reached}
 
@@ -140,7 +138,7 @@ module _ (b : List ℕ) (bodies : List (List Entry)) (starts : ℕ → ℕ) (r :
       never (is_ready r b t) (so_ready t h x) (sym ((ready-word r b w.along.sound).bit t h) ∙ rw z (zero_bit t))
 
 -- the whole order of a recording
-module _ (b : List ℕ) (p : Parsed) (e : parse b ≡ read p) where
+module _ (b : List ℕ) (p : Parsed) (e : parse b ≡ Ok p) where
   abbrev pub start_at : ℕ → ℕ
   start_at t = (get_or p.spans t no_span).start
 

@@ -1,7 +1,5 @@
 -- An order of all accesses has as many steps as there are accesses.
-use Rattle.std.specs.Prelude.{◌≡◌, [], ◌∷◌, ℕ, zero, suc, ◌+◌, ◌≤◌, ◌<◌}
-use Rattle.std.proofs.Common.{◌∙◌}
-use Rattle.std.proofs.Math.Decide.{ℕ_discrete}
+use Rattle.std.specs.Prelude.{ℕ, zero, suc, ◌+◌}
 
 -- f at 0, 1, .., n - 1, added up
 unfoldable pub sum_to : ℕ → (ℕ → ℕ) → ℕ

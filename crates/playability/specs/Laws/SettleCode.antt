@@ -1,6 +1,5 @@
 -- The play without a memory as the code does it: one pass of the loop, and the runs of a layout.
-use Rattle.std.specs.Prelude.{◌≡◌, List, ℕ, ◌+◌, ◌<◌, length}
-use Rattle.std.proofs.Common.{◌∙◌}
+use Rattle.std.specs.Prelude.{◌≡◌, List, ℕ, ◌+◌, length}
 use Rattle.pending.specs.declared.Run.{Run}
 use Rattle.pending.specs.Laws.Moved.{Shaped}
 use Rattle.scheduler.specs.Schedule.{schedule_of, settled_of}

@@ -1,6 +1,5 @@
 -- F-2, proved: 18 is answered exactly if there is no order of all accesses among all lists of tasks, and the order that is written is one.
-use Rattle.std.specs.Prelude.{◌≡◌, List, [], ◌∷◌, ◌++◌, ℕ, ◌+◌, ◌*◌, ◌≤◌, ◌<◌, length}
-use Rattle.std.proofs.Common.{◌∙◌}
+use Rattle.std.specs.Prelude.{◌≡◌, List, ◌∷◌, ◌++◌, ℕ, ◌+◌, ◌*◌, ◌≤◌, ◌<◌, length}
 use Rattle.codec.specs.declared.Position.{Position}
 use Rattle.codec.specs.Number.{no_room, no_order}
 use Rattle.codec.specs.Store.{store}

@@ -1,8 +1,6 @@
 -- The order of "lowest ready task first" through a recording: it is allowed, the lowest ready task is next at each place, and no task is
 -- ready after it. A run's test for ready tasks and `Order.Ready` agree.
-use Rattle.std.specs.Prelude.{◌≡◌, List, [], ◌∷◌, ◌++◌, ℕ, ◌+◌, ◌≤◌, ◌<◌, length, take}
-use Rattle.std.proofs.Common.{◌∙◌}
-use Rattle.std.proofs.Math.Decide.{ℕ_discrete}
+use Rattle.std.specs.Prelude.{◌≡◌, List, ℕ, ◌+◌, ◌<◌, length, take}
 use Rattle.entries.specs.Recording.{Entry}
 use Rattle.pending.specs.declared.Run.{Run}
 use Rattle.pending.specs.Run.{task_at, done_of}

@@ -54,16 +54,16 @@ unfolding starts_of
 starts-same a b zero h = refl
 starts-same a b (suc n) h = rw (h n (omega arith), starts-same a b n (λ t k. h t (omega arith)))
 
+-- the run at the start of a layout is the recording's
+pub begun_opened : (l : Layout) (p : Parsed) → Laid p l → begun_of l ≡ opened_run p
+begun_opened l p w = rw (w.tasks, w.objects, w.fields, starts-same l.spans p.spans p.recording.tasks w.span)
+
 module _ (b memory : List ℕ) where
   pub open_bytes : (c : Refusal) → Err c ≡ layout_of (parse b) → Refusing b memory (number_of c.reason) c.offset
   unfolding open_of on_parse records_for
   open_bytes c e = let w : Refuses b c = refuses b c e in record { answer = rw w.is; records = rw w.is; kept = rw w.is }
 
   module _ (l : Layout) (e : Ok l ≡ layout_of (parse b)) where
-    -- the run at the start of a layout is the recording's
-    begun_opened : (p : Parsed) → Laid p l → begun_of l ≡ opened_run p
-    begun_opened p w = rw (w.tasks, w.objects, w.fields, starts-same l.spans p.spans p.recording.tasks w.span)
-
     pub open_length : (length memory ≡ cells_of l.fields l.objects → ⊥) → Refusing b memory wrong_length 0
     unfolding open_of on_parse records_for
     open_length h =
@@ -85,7 +85,7 @@ module _ (b memory : List ℕ) where
         let s : starting_in l.fields l.objects b memory ≡ starting_in p.recording.fields (length p.recording.owners) b memory =
         ap₂ (λ (i j : ℕ). starting_in i j b memory) w.laid.fields w.laid.objects in
         record {
-          answer = rw (w.is, d, begun_opened p w.laid);
+          answer = rw (w.is, d, begun_opened l p w.laid);
           records = w.laid.records ∙ rw (w.is, d);
           values = s ∙ rw (starting_there p.recording.fields (length p.recording.owners) b memory f, w.is, d) (sym v.values);
         }

@@ -8,7 +8,7 @@ use Rattle.codec.specs.Store.{store}
 use Rattle.codec.specs.Cell.{width_of, cells_of, cell_of, object_at}
 use Rattle.codec.specs.Head.{head_step, head_size, fields_of}
 use Rattle.entries.specs.Bytes.{orderings_bytes, entry_bytes}
-use Rattle.entries.specs.Entry.{ordering_ok, access_number as entry_number, access_of as access_record_of, on_record, entry_from, entry_at as read_entry}
+use Rattle.entries.specs.Entry.{ordering_ok, check_access, access_of as access_record_of, on_record, entry_from, entry_at as read_entry}
 use Rattle.entries.specs.Body.{body_from, body_entries, tally, judged, walk_of}
 use Rattle.reader.specs.Section.{taken, section_body, on_section, section_at, sections_of}
 use Rattle.reader.specs.Parse.{owners_of, values_at, values_of, all_below, sizes_ok, on_head, head_at, sections_after, parse}
@@ -30,7 +30,7 @@ use Rattle.runs.specs.Rows.{tracked_by}
 use Rattle.runs.specs.Fields.{Fields}
 
 pub fields : Fields
-unfolding tracked_by open_by opened open_number entries_ok all_below opened_state owned_cells object_at cells_of cell_of width_of outcome called called_all packed access_of access_number checked accepted refused sound_of last_sound task_sound tasks_sound cell_sound sum_of is_within all_pass row_of orderings_of every_done written left_out state_after locality_after effect_of class_of store orderings_bytes entry_bytes ordering access access_kind has_field stores_value start start_two le2 le4 head_kind_of head_step head_size fields_of fields_bytes head_front head value_bytes head_object head_objects section section_of section_checked log_checked walk_of judged tally body_entries body_from read_entry entry_from on_record access_record_of entry_number stands_under ordering_ok record_of is_head width_at head_of section_record_of op_at body_of field2 field4 checked_of parse head_at on_head sections_after sections_of section_at on_section section_body taken owners_of values_at values_of sizes_ok
+unfolding tracked_by open_by opened open_number entries_ok all_below opened_state owned_cells object_at cells_of cell_of width_of outcome called called_all packed access_of access_number checked accepted refused sound_of last_sound task_sound tasks_sound cell_sound sum_of is_within all_pass row_of orderings_of every_done written left_out state_after locality_after effect_of class_of store orderings_bytes entry_bytes ordering access access_kind has_field stores_value start start_two le2 le4 head_kind_of head_step head_size fields_of fields_bytes head_front head value_bytes head_object head_objects section section_of section_checked log_checked walk_of judged tally body_entries body_from read_entry entry_from on_record access_record_of check_access stands_under ordering_ok record_of is_head width_at head_of section_record_of op_at body_of field2 field4 checked_of parse head_at on_head sections_after sections_of section_at on_section section_body taken owners_of values_at values_of sizes_ok
 fields = record {
   apart = refl;
   together = refl;

@@ -9,7 +9,7 @@ use Rattle.codec.specs.Kind.{is_head, reads, writes, has_field, stores_value, is
 use Rattle.codec.specs.Limit.{is_within}
 use Rattle.entries.specs.Body.{body_entries, body_from}
 use Rattle.entries.specs.Bytes.{orderings_bytes, entry_bytes, body_bytes, sections_bytes, bytes_of}
-use Rattle.entries.specs.Entry.{entry_at, entry_from, on_record, access_of, access_number, ordering_ok}
+use Rattle.entries.specs.Entry.{entry_at, entry_from, on_record, access_of, check_access, ordering_ok}
 use Rattle.entries.specs.Part.{part}
 use Rattle.entries.specs.Records.{body_records, sections_records, records_in}
 use Rattle.reader.specs.Calls.{checked_of}
@@ -31,7 +31,7 @@ use Rattle.fidelity.specs.Bench.{stepped_all}
 use Rattle.runs.specs.Kinds.{lines_by, Kinds}
 
 pub kinds : Kinds
-unfolding body_records sections_records records_in records_for ordering access start start_two le2 le4 cells_of cell_of width_of head_kind_of head_step head_size fields_of fields_bytes head_front head value_bytes head_object head_objects section body_entries body_from entry_at entry_from on_record access_of access_number stands_under ordering_ok record_of is_head width_at head_of section_of op_at body_of field2 field4 checked_of parse head_at on_head sections_after sections_of section_at on_section section_body taken owners_of values_at values_of sizes_ok all_below is_within orderings_bytes entry_bytes body_bytes sections_bytes bytes_of part reads writes has_field stores_value is_valued_read all_from task_sound sound_of all_met moved_of entry_next judged next_of word_of is_ready ready_of starts_of on_parse open_of early_number on_next step_of stepped_all object_of line_of digits_within lines_by
+unfolding body_records sections_records records_in records_for ordering access start start_two le2 le4 cells_of cell_of width_of head_kind_of head_step head_size fields_of fields_bytes head_front head value_bytes head_object head_objects section body_entries body_from entry_at entry_from on_record access_of check_access stands_under ordering_ok record_of is_head width_at head_of section_of op_at body_of field2 field4 checked_of parse head_at on_head sections_after sections_of section_at on_section section_body taken owners_of values_at values_of sizes_ok all_below is_within orderings_bytes entry_bytes body_bytes sections_bytes bytes_of part reads writes has_field stores_value is_valued_read all_from task_sound sound_of all_met moved_of entry_next judged next_of word_of is_ready ready_of starts_of on_parse open_of early_number on_next step_of stepped_all object_of line_of digits_within lines_by
 kinds = record {
   bare_first = refl;
   bare_second = refl;

@@ -10,7 +10,7 @@ use Rattle.codec.specs.Store.{store}
 use Rattle.entries.specs.Body.{walk_of, judged, tally, body_entries, body_from}
 use Rattle.entries.specs.Bytes.{orderings_bytes, entry_bytes, body_bytes, sections_bytes, bytes_of}
 use Rattle.reader.specs.Calls.{checked_of}
-use Rattle.entries.specs.Entry.{entry_at, entry_from, on_record, access_of as access_of-reader-entry, access_number as access_number-reader-entry, ordering_ok}
+use Rattle.entries.specs.Entry.{entry_at, entry_from, on_record, access_of as access_of-reader-entry, check_access, ordering_ok}
 use Rattle.reader.specs.Parse.{all_below, parse, head_at, on_head, sections_after, owners_of, values_at, values_of, sizes_ok}
 use Rattle.entries.specs.Part.{part}
 use Rattle.reader.specs.Section.{sections_of, section_at, on_section, section_body, taken}
@@ -41,5 +41,5 @@ use Rattle.fidelity.specs.Bench.{stepped_all, tally as tally_steps}
 use Rattle.runs.specs.Whole.{Whole}
 
 pub whole : Whole
-unfolding open_by opened open_number entries_ok all_below opened_state owned_cells object_at cells_of cell_of width_of outcome called called_all packed access_of access_number checked accepted refused sound_of last_sound task_sound tasks_sound cell_sound sum_of is_within all_below-tracker-range row_of orderings_of every_done written left_out state_after locality_after effect_of class_of store orderings_bytes entry_bytes ordering access access_kind reads writes has_field stores_value is_valued_read start start_two le2 le4 head_kind_of head_step head_size fields_of fields_bytes head_front head value_bytes head_object head_objects section section_of section_checked log_checked walk_of judged tally body_entries body_from entry_at entry_from on_record access_of-reader-entry access_number-reader-entry stands_under ordering_ok record_of is_head width_at head_of section_of-codec-decode op_at body_of-codec-decode field2 field4 checked_of parse head_at on_head sections_after sections_of section_at on_section section_body taken owners_of values_at values_of sizes_ok body_bytes sections_bytes bytes_of part all_from task_sound-replayer-sound sound_of-replayer-sound all_met moved_of entry_next judged-replayer-next next_of-replayer-next word_of is_ready ready_of starts_of on_parse open_of-replayer-openof early_number on_next step_of recorded_from stepped_all tally_steps
+unfolding open_by opened open_number entries_ok all_below opened_state owned_cells object_at cells_of cell_of width_of outcome called called_all packed access_of access_number checked accepted refused sound_of last_sound task_sound tasks_sound cell_sound sum_of is_within all_below-tracker-range row_of orderings_of every_done written left_out state_after locality_after effect_of class_of store orderings_bytes entry_bytes ordering access access_kind reads writes has_field stores_value is_valued_read start start_two le2 le4 head_kind_of head_step head_size fields_of fields_bytes head_front head value_bytes head_object head_objects section section_of section_checked log_checked walk_of judged tally body_entries body_from entry_at entry_from on_record access_of-reader-entry check_access stands_under ordering_ok record_of is_head width_at head_of section_of-codec-decode op_at body_of-codec-decode field2 field4 checked_of parse head_at on_head sections_after sections_of section_at on_section section_body taken owners_of values_at values_of sizes_ok body_bytes sections_bytes bytes_of part all_from task_sound-replayer-sound sound_of-replayer-sound all_met moved_of entry_next judged-replayer-next next_of-replayer-next word_of is_ready ready_of starts_of on_parse open_of-replayer-openof early_number on_next step_of recorded_from stepped_all tally_steps
 whole = record { size = refl; first_word = refl; second_word = refl; held = refl; end_word = refl; end_memory = refl; end_taken = refl }

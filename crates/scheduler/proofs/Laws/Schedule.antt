@@ -40,16 +40,16 @@ schedule_next b r s h t op next w =
     let f : left_over r ≡ suc (left_over (moved_of r t next)) = omega (arith, (behind r b t op next s h w).fewer) in
     rw f (schedule_goes (left_over (moved_of r t next)) b r t op next w)
 
-Short : (n : ℕ) (b : List ℕ) (r : Run) → length (schedule_from n b r) ≤ n
+short : (n : ℕ) (b : List ℕ) (r : Run) → length (schedule_from n b r) ≤ n
 unfolding schedule_from
-Short zero b r = omega arith
-Short (suc n) b r = elim (ℕ_discrete (ready_of r b).word 0) [
+short zero b r = omega arith
+short (suc n) b r = elim (ℕ_discrete (ready_of r b).word 0) [
   | yes z ↦ rw (eq-eqb (ready_of r b).word 0 z) (omega arith)
-  | no z ↦ rw (ne_eqb (ready_of r b).word 0 z) (omega (arith, Short n b (behind_of r (next_task b r) (next_of r b (next_task b r)))))
+  | no z ↦ rw (ne_eqb (ready_of r b).word 0 z) (omega (arith, short n b (behind_of r (next_task b r) (next_of r b (next_task b r)))))
 ]
 
 pub schedule_short : (b : List ℕ) (r : Run) → length (schedule_of b r) ≤ left_over r
-schedule_short b r = Short (left_over r) b r
+schedule_short b r = short (left_over r) b r
 
 -- as many steps as the order has are enough, or as many as accesses are left
 pub schedule_within : (b : List ℕ) (n : ℕ) (r : Run) → sound_of r (length b) ≡ true → Shaped r → length (schedule_of b r) ≤ n → schedule_from n b r ≡ schedule_of b r

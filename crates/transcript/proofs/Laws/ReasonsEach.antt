@@ -1,9 +1,8 @@
 -- After the last step of a recording whose play no 19 stopped, no task is ready, and each task that has accesses left has its line. The
 -- access that it waits for comes in no allowed order.
-use Rattle.std.specs.Prelude.{◌≡◌, true, List, ℕ, ◌<◌}
+use Rattle.std.specs.Prelude.{Ok, ◌≡◌, true, List, ℕ, ◌<◌}
 use Rattle.reader.specs.Parse.{Parsed, parse}
 use Rattle.codec.specs.declared.Position.{Position}
-use Rattle.entries.specs.Reading.{read}
 use Rattle.entries.specs.Recording.{Entry}
 use Rattle.pending.specs.declared.Run.{Run}
 use Rattle.pending.specs.Unmet.{first, unmet_next}
@@ -23,7 +22,7 @@ use Rattle.transcript.specs.Told.{stop_in, after_of}
 use Rattle.transcript.proofs.Laws.Told.{stop-taken}
 use Rattle.transcript.specs.Laws.ReasonsEach.{NeverComes, ReasonEach}
 
-module _ (b : List ℕ) (p : Parsed) (e : parse b ≡ read p) (z : (stop_in b (opened_run p) p.recording.values (schedule_of b (opened_run p))).number ≡ 0) where
+module _ (b : List ℕ) (p : Parsed) (e : parse b ≡ Ok p) (z : (stop_in b (opened_run p) p.recording.values (schedule_of b (opened_run p))).number ≡ 0) where
   -- the play's run is the one without a memory
   settles : (after_of b (opened_run p) p.recording.values (schedule_of b (opened_run p))).run ≡ settled_of b (opened_run p)
   settles =

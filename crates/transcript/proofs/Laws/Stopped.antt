@@ -1,9 +1,8 @@
 -- What stops the play of a recording is 19 and nothing else: the order names ready tasks only.
-use Rattle.std.specs.Prelude.{◌≡◌, refl, List, ℕ, zero, suc}
+use Rattle.std.specs.Prelude.{Ok, ◌≡◌, refl, List, ℕ, zero, suc}
 use Rattle.codec.specs.Cell.{op_cell}
 use Rattle.codec.specs.Laws.Decide.{passes, fails, split}
 use Rattle.codec.specs.Number.{differs}
-use Rattle.entries.specs.Reading.{read}
 use Rattle.reader.specs.Parse.{Parsed, parse}
 use Rattle.replayer.proofs.Laws.OpenOf.{opened-stands}
 use Rattle.replayer.specs.Memory.{agrees}
@@ -31,7 +30,7 @@ stops_by (suc n) b x w z = elim (standing x.run b w.sound) [
   ]
 ]
 
-pub stopped_by_lem : (b : List ℕ) (p : Parsed) → parse b ≡ read p → ((stop_in b (opened_run p) p.recording.values (schedule_of b (opened_run p))).number ≡ 0 → ⊥)
+pub stopped_by_lem : (b : List ℕ) (p : Parsed) → parse b ≡ Ok p → ((stop_in b (opened_run p) p.recording.values (schedule_of b (opened_run p))).number ≡ 0 → ⊥)
     → (stop_in b (opened_run p) p.recording.values (schedule_of b (opened_run p))).number ≡ differs
 stopped_by_lem b p e = let s = opened-stands b p e in
     stops_by (left_over (opened_run p)) b (record { run = opened_run p; memory = p.recording.values; steps = 0 }) (record { sound = s.sound; shaped = s.shaped; entries = s.values })

@@ -1,9 +1,9 @@
 -- The cases of the reasons, and how long they can be.
-use Rattle.std.specs.Prelude.{◌≡◌, refl, false, List, [], ℕ, ◌≤◌, ◌<◌, length}
+use Rattle.std.specs.Prelude.{Err, Ok, ◌≡◌, refl, false, List, [], ℕ, ◌≤◌, ◌<◌, length}
 use Rattle.std.proofs.Math.Decide.{dec_lt}
 use Rattle.std.proofs.Common.{arith, lt-ltb, le-ltb}
-use Rattle.entries.specs.declared.Checked.{Checked}
-use Rattle.entries.specs.Reading.{Reading, refused, read}
+use Rattle.entries.specs.declared.Refusal.{Refusal}
+use Rattle.entries.specs.Reading.{Reading}
 use Rattle.reader.specs.Parse.{Parsed, parse}
 use Rattle.pending.proofs.Laws.Sound.{sound_facts}
 use Rattle.replayer.proofs.Laws.Along.{along_opened}
@@ -22,11 +22,11 @@ module _ (b : List ℕ) where
   reasons-long h = rw (lt-ltb longest (length b) h)
 
   module _ (h : length b ≤ longest) where
-    pub reasons-refused : (c : Checked) → parse b ≡ refused c → reasons_of b ≡ []
+    pub reasons-refused : (c : Refusal) → parse b ≡ Err c → reasons_of b ≡ []
     unfolding reasons_of reasons_in
     reasons-refused c e = rw (le-ltb longest (length b) h, e)
 
-    module _ (p : Parsed) (e : parse b ≡ read p) where
+    module _ (p : Parsed) (e : parse b ≡ Ok p) where
       pub reasons-read : reasons_of b ≡ waits_of b (settled_of b (opened_run p))
       unfolding reasons_of reasons_in
       reasons-read = rw (le-ltb longest (length b) h, e)
@@ -41,7 +41,7 @@ module _ (b : List ℕ) where
   ]
     where
       go : length b ≤ longest → (x : Reading Parsed) → parse b ≡ x → length (reasons_of b) ≤ waits_most
-      go h (refused c) e = rw (reasons-refused h c e) (omega arith)
-      go h (read p) e =
+      go h (Err c) e = rw (reasons-refused h c e) (omega arith)
+      go h (Ok p) e =
           let s = sound_facts _ _ (settled_along b p.recording.bodies (opened_run p) (along_opened b p e)).sound in
           rw (reasons-read h p e) (omega (arith, waits_short b (settled_of b (opened_run p)) (settled_of b (opened_run p)).tasks, s.few_tasks))

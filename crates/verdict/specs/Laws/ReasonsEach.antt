@@ -1,7 +1,6 @@
 -- Where a recording cannot be played to its end, each task that has accesses left has its line, and what the line says is true: the access
 -- that the task waits for comes in no allowed order.
-use Rattle.std.specs.Prelude.{◌≡◌, true, List, ℕ, ◌<◌}
-use Rattle.entries.specs.Reading.{read}
+use Rattle.std.specs.Prelude.{Ok, ◌≡◌, true, List, ℕ, ◌<◌}
 use Rattle.reader.specs.Parse.{Parsed, parse}
 use Rattle.replayer.proofs.Laws.Along.{along_opened}
 use Rattle.replayer.specs.OpenOf.{opened_run}
@@ -17,7 +16,7 @@ pub record Told (b : List ℕ) (p : Parsed) (t : ℕ) : Type 0 where
   pub waiting : Waiting b (settled_of b (opened_run p)) t
   pub never : (order : List ℕ) → Allowed p.recording.bodies order → times waiting.ordering.task order < waiting.ordering.number
 
-pub reason_each : (b : List ℕ) (p : Parsed) → parse b ≡ read p → (t : ℕ) → t < (settled_of b (opened_run p)).tasks → has_left (settled_of b (opened_run p)) t ≡ true → Told b p t
+pub reason_each : (b : List ℕ) (p : Parsed) → parse b ≡ Ok p → (t : ℕ) → t < (settled_of b (opened_run p)).tasks → has_left (settled_of b (opened_run p)) t ≡ true → Told b p t
 reason_each b p e t h l =
     let a = along_opened b p e in
     let w = waits_each b p.recording.bodies _ (settled_along b p.recording.bodies (opened_run p) a) (settled_ends b (opened_run p) a.sound a.shaped) t h l in

@@ -1,19 +1,15 @@
 use mathlib.Core.Path.{◌≡◌, sym, ◌∙◌}
-use Prim.Native.Nat.{◌≤◌, ◌-◌}
+use Prim.Native.Nat.{◌-◌}
 use native.Mathlib.Omega.{arith}
 use lib.ListN.{length}
-use borrow.Author.Tests.{not-true, not-false, lt-ltb, le-ltb}
-use Rattle.pending.specs.All.{all_from}
+use borrow.Author.Tests.{lt-ltb, le-ltb, eqb-true, eqb-false}
 use Rattle.pending.proofs.Laws.All.{all-on, all_off, all_end}
 use Rattle.follow.specs.Within.{is_there, all_there}
-use Rattle.follow.proofs.within.all_there.Reads as reads
-use Rattle.follow.proofs.within.all_there.Lts as lts
-use Rattle.follow.proofs.within.is_there.Reads as is-there-reads
 use Rattle.follow.proofs.within.all_there.Goals as goal
 
-pub returns-then-counts-eq0 : goal.returns-then-counts-eq0
+pub returns-then-is_empty : goal.returns-then-is_empty
 unfolding all_there
-returns-then-counts-eq0 c = rw (le-ltb 0 (length c.args.counts.now) (omega (arith, c.if-counts-eq0.true)))
+returns-then-is_empty c = rw (le-ltb 0 (length c.args.counts.now) (omega (arith, eqb-true _ _ (sym c.if-is_empty.ensures))))
 
 pub loop-t-init : goal.loop-t-init
 loop-t-init c = let o : length c.args.counts.now - 0 ≡ length c.args.counts.now = omega arith in (omega arith, rw o)
@@ -34,5 +30,5 @@ pub returns : goal.returns
 unfolding all_there
 returns c = let a = c.args in
     let l = c.loop-t in
-    rw (lt-ltb 0 (length a.counts.now) (omega (arith, c.if-counts-eq0.false)))
+    rw (lt-ltb 0 (length a.counts.now) (omega (arith, eqb-false _ _ (sym c.if-is_empty.ensures))))
     (sym (all_end (is_there a.counts.now a.run) l.t (length a.counts.now) c.loop-t-test.false) ∙ l.invariant.1)

@@ -1,14 +1,8 @@
-use mathlib.Core.Path.{◌≡◌, sym, ◌∙◌}
+use mathlib.Core.Path.{◌≡◌}
 use Prim.Native.Nat.{◌≤◌, ◌-◌}
-use native.Mathlib.Omega.{arith}
 use lib.ListN.{length}
-use borrow.Author.Tests.{not-true, not-false, lt-ltb, le-ltb}
 use Rattle.pending.specs.All.{all_from}
-use Rattle.pending.proofs.Laws.All.{all-on, all_off, all_end}
-use Rattle.follow.specs.Within.{is_there, all_there}
-use Rattle.follow.proofs.within.all_there.Reads as reads
-use Rattle.follow.proofs.within.all_there.Lts as lts
-use Rattle.follow.proofs.within.is_there.Reads as is-there-reads
+use Rattle.follow.specs.Within.{is_there}
 use Rattle.follow.proofs.within.all_there.Given as goal
 
 abbrev pub invariant-loop-t : goal.invariant-loop-t

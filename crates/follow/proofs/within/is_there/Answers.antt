@@ -1,17 +1,10 @@
-use native.Mathlib.Omega.{arith}
-use borrow.Author.Tests.{lt-ltb, le-ltb}
 use Rattle.follow.specs.Within.{is_there}
-use Rattle.follow.proofs.within.is_there.Reads as reads
-use Rattle.follow.proofs.within.is_there.Lts as lts
 use Rattle.follow.proofs.within.is_there.Goals as goal
 
-pub returns-then-counts-task : goal.returns-then-counts-task
+pub returns-in_default : goal.returns-in_default
 unfolding is_there
-returns-then-counts-task c = rw (le-ltb _ _ c.if-counts-task.true)
-
-pub overflow_cast-count : goal.overflow_cast-count
-overflow_cast-count c = omega (arith, c.shared_slice_known-1.given c.args.task)
+returns-in_default c = rw (← c.in_default.ensures.lookup.0)
 
 pub returns : goal.returns
 unfolding is_there
-returns c = rw (lt-ltb _ _ c.if-counts-task.false)
+returns c = rw (← c.in-Some.ensures.lookup.0, c.in-Some.ensures.lookup.3.1 0)

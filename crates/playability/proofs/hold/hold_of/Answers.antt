@@ -1,8 +1,7 @@
 use mathlib.Core.Path.{◌≡◌, refl, sym, ◌∙◌}
-use Prim.Native.Nat.{◌-◌, ◌≤◌}
+use Prim.Native.Nat.{◌-◌}
 use native.Mathlib.Omega.{arith}
 use borrow.Author.Tests.{lt-ltb, le-ltb}
-use Rattle.playability.specs.Hold.{hold_from, hold_of}
 use Rattle.playability.proofs.Laws.Held.{hold_on, hold_found, hold_end}
 use Rattle.playability.proofs.hold.hold_of.Goals as goal
 

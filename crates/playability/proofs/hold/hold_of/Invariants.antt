@@ -1,9 +1,6 @@
-use mathlib.Core.Path.{◌≡◌, refl, sym, ◌∙◌}
+use mathlib.Core.Path.{◌≡◌}
 use Prim.Native.Nat.{◌-◌, ◌≤◌}
-use native.Mathlib.Omega.{arith}
-use borrow.Author.Tests.{lt-ltb, le-ltb}
 use Rattle.playability.specs.Hold.{hold_from, hold_of}
-use Rattle.playability.proofs.Laws.Held.{hold_on, hold_found, hold_end}
 use Rattle.playability.proofs.hold.hold_of.Given as goal
 
 abbrev pub invariant-loop-t : goal.invariant-loop-t

@@ -4,10 +4,8 @@ use Rattle.text.specs.Laws.Decimal.{decimal_short, field-length}
 use Rattle.script.specs.Laws.MessageCode.{reason_malformed, reason_refused}
 use Rattle.script.proofs.message.put_reason.Goals as goal
 
-pub returns-then-number-eq0 : goal.returns-then-number-eq0
-returns-then-number-eq0 c = let p = c.put_bytes-end.ensures in
-    let q = c.put_fault.ensures in
-    record { appended = reason_malformed _ _ c.if-number-eq0.true p q.appended; upper_bound = omega (arith, p.behind, q.upper_bound) }
+pub returns-then-number-eq0-clause-appended : goal.returns-then-number-eq0-clause-appended
+returns-then-number-eq0-clause-appended c = reason_malformed _ _ c.if-number-eq0.true c.put_bytes-end.ensures c.put_fault.ensures.appended
 
 pub put_field-requires : goal.put_field-requires
 put_field-requires c = let n = c.args.number in
