@@ -1,9 +1,6 @@
 use native.Mathlib.Omega.{arith}
 use mathlib.Core.Path.{sym, ◌∙◌}
-use borrow.Author.Tests.{lt-ltb, le-ltb, eq-eqb, ne_eqb}
 use Rattle.pending.proofs.Laws.Sound.{sound_facts}
-use Rattle.pending.specs.Run.{task_at, cell_count}
-use Rattle.replayer.specs.StepOf.{early_number}
 use Rattle.replayer.proofs.stepping.check_early.Goals as goal
 
 pub cells_of-requires : goal.cells_of-requires
