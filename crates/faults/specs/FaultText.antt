@@ -1,7 +1,7 @@
 -- The message about a fault, after `line 7: expected `.
 use Rattle.std.specs.Prelude.{cond, List, [], ◌∷◌, ◌++◌, ℕ, eqb, length, codes}
 use Rattle.lines.specs.declared.rows.Sizes as sizes
-use Rattle.lines.specs.Rows.{names_field}
+use Rattle.lines.specs.Rows.{has_fields}
 use Rattle.lines.specs.Words.{words_of}
 use Rattle.text.specs.Decimal.{decimal_of, field_of}
 use Rattle.faults.specs.declared.expected.Expected.{Expected}
@@ -62,7 +62,7 @@ missing_text kind = missing_name kind ++ found_text_end
 
 -- for a line of a text that begins with T, N and F
 abbrev pub line_text : sizes.Sizes → Kind → List ℕ → List ℕ
-line_text z kind line = stop_text kind (count_of kind z) (stop_of (names_field z) (first_of kind) 0 (words_of line))
+line_text z kind line = stop_text kind (count_of kind z) (stop_of (has_fields z) (first_of kind) 0 (words_of line))
 
 unfoldable pub reading_text : sizes.Sizes → Reading → List ℕ
 reading_text z d = cond d.there (line_text z d.kind d.bytes) (missing_text d.kind)

@@ -34,18 +34,18 @@ fn form_of(e: Expected) -> Form
     ensures { result ≡ form_of e }
 {
     match e {
-        Expected::Tasks => Form::Number,
-        Expected::Objects => Form::Number,
-        Expected::Fields => Form::Number,
-        Expected::Owner => Form::Number,
-        Expected::Start => Form::Number,
-        Expected::Task => Form::Number,
+        Expected::Tasks
+        | Expected::Objects
+        | Expected::Fields
+        | Expected::Owner
+        | Expected::Start
+        | Expected::Task
+        | Expected::ReadObject
+        | Expected::WriteObject
+        | Expected::ReadField
+        | Expected::WriteField
+        | Expected::Value => Form::Number,
         Expected::Letter => Form::Letter,
-        Expected::ReadObject => Form::Number,
-        Expected::WriteObject => Form::Number,
-        Expected::ReadField => Form::Number,
-        Expected::WriteField => Form::Number,
-        Expected::Value => Form::Number,
         Expected::End => Form::Nothing,
     }
 }
@@ -81,17 +81,14 @@ fn behind(e: Expected, named: bool) -> Expected
     match e {
         Expected::Tasks => Expected::Objects,
         Expected::Objects => Expected::Fields,
-        Expected::Fields => Expected::End,
         Expected::Owner => Expected::Owner,
         Expected::Start => Expected::Start,
         Expected::Task => Expected::Letter,
         Expected::Letter => Expected::ReadObject,
         Expected::ReadObject => behind_object(named, Expected::ReadField, Expected::End),
         Expected::WriteObject => behind_object(named, Expected::WriteField, Expected::Value),
-        Expected::ReadField => Expected::End,
         Expected::WriteField => Expected::Value,
-        Expected::Value => Expected::End,
-        Expected::End => Expected::End,
+        Expected::Fields | Expected::ReadField | Expected::Value | Expected::End => Expected::End,
     }
 }
 

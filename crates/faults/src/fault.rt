@@ -78,10 +78,9 @@ fn put_end(out: &mut [u8], at: usize, kind: Kind, n: usize, e: Expected, k: usiz
     ensures upper_bound { result ≤ at + 71 }
 {
     match kind {
-        Kind::Sizes => put_line_end(out, at, e),
+        Kind::Sizes | Kind::Access => put_line_end(out, at, e),
         Kind::Owners => put_count(out, at, n, b" owner", k),
         Kind::Starts => put_count(out, at, n, b" starting value", k),
-        Kind::Access => put_line_end(out, at, e),
     }
 }
 

@@ -36,8 +36,7 @@ pub(crate) fn kind_after(kind: Kind) -> Kind
     match kind {
         Kind::Sizes => Kind::Owners,
         Kind::Owners => Kind::Starts,
-        Kind::Starts => Kind::Access,
-        Kind::Access => Kind::Access,
+        Kind::Starts | Kind::Access => Kind::Access,
     }
 }
 
@@ -47,9 +46,8 @@ pub(crate) fn count_of(kind: Kind, z: Sizes) -> usize
     ensures { result ≡ count_of kind z }
 {
     match kind {
-        Kind::Sizes => 0,
+        Kind::Sizes | Kind::Access => 0,
         Kind::Owners => z.objects,
         Kind::Starts => z.objects * width_of(z.fields.unwrap_or(0)),
-        Kind::Access => 0,
     }
 }

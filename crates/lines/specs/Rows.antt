@@ -33,8 +33,8 @@ sizes_of f =
     None)
 
 -- whether the lines of accesses name a field, and F, 0 if not
-abbrev pub names_field : Sizes → Bool
-names_field z = is_some z.fields
+abbrev pub has_fields : Sizes → Bool
+has_fields z = is_some z.fields
 
 abbrev pub fields_in : Sizes → ℕ
 fields_in z = unwrap_or z.fields 0

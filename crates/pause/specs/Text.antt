@@ -1,9 +1,9 @@
 -- What the replay program writes for a recording if it is asked to pause or to follow an order (document 02, F-4): `long` for more than
 -- 65,536 bytes; nothing, and the reason on standard error, if the order cannot be followed; `refused` with number and offset for bytes that
 -- are refused, and with 3 if there is not a count for each task; otherwise the text of the steps asked for.
-use Rattle.std.specs.Prelude.{cond, Option, Some, None, List, [], ℕ, ltb, length}
+use Rattle.std.specs.Prelude.{Err, Ok, cond, Option, Some, None, List, [], ℕ, ltb, length}
 use Rattle.codec.specs.Number.{entries as wrong_length}
-use Rattle.entries.specs.Reading.{Reading, refused, read}
+use Rattle.entries.specs.Reading.{Reading}
 use Rattle.reader.specs.Parse.{Parsed, parse}
 use Rattle.replayer.specs.OpenOf.{opened_run}
 use Rattle.replay_lines.specs.Limits.{longest}
@@ -14,6 +14,7 @@ use Rattle.waits.specs.Waits.{waits_most}
 use Rattle.pause.specs.Ending.{said_of}
 use Rattle.follow.specs.Follow.{Followed, followed_of}
 use Rattle.pause.specs.Request.{Request, steps_of, has_counts, request_of, can_follow, complaint_of}
+use Rattle.codec.specs.Reason.{number_of}
 
 -- a recording at its start
 abbrev pub start_of : Parsed → Play
@@ -24,8 +25,8 @@ abbrev pub followed_by : Request → List ℕ → Parsed → Followed
 followed_by q b p = followed_of b q.most q.counts (start_of p) (steps_of q b (opened_run p))
 
 unfoldable pub answer_of : Request → List ℕ → Reading Parsed → Streams
-answer_of q b (refused c) = record { text = refusal_of c.number c.offset; reasons = [] }
-answer_of q b (read p) =
+answer_of q b (Err c) = record { text = refusal_of (number_of c.reason) c.offset; reasons = [] }
+answer_of q b (Ok p) =
     cond (has_counts q.counts p.recording.tasks)
     (said_of b q.counts (followed_by q b p))
     (record { text = refusal_of wrong_length 0; reasons = [] })

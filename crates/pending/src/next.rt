@@ -53,6 +53,7 @@ pub fn first_unmet(bytes: &[u8], from: usize, at: usize, dones: &[usize; TASKS])
 }
 
 // The group between two places, compared with the accesses done. All of it is read before any ordering is compared.
+#[inline(always)]
 pub fn look_at(
     bytes: &[u8],
     from: usize,

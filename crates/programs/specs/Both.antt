@@ -9,6 +9,7 @@ use Rattle.history.specs.Replay.{one_more}
 use Rattle.faults.specs.Reading.{text_sizes}
 use Rattle.fidelity.specs.Box.{Opening, Asked, recorded}
 use Rattle.lines.specs.AccessLines.{access_lines}
+use Rattle.lines.specs.Rows.{has_fields}
 use Rattle.script.specs.RecordOf.{record_of}
 use Rattle.text.specs.Decimal.{field_of}
 use Rattle.replay_lines.specs.Lines.{end_line, memory_of}
@@ -35,7 +36,7 @@ pub data Lines (fields : ℕ) (h : History) : (ℕ → ℕ) → List ℕ → Lis
 pub record Shown (text : List ℕ) : Type 0 where
   pub opening : Opening
   pub asked : List Asked
-  pub asks : map wanted_by asked ≡ map (wanted_in (text_sizes text).named) (access_lines text)
+  pub asks : map wanted_by asked ≡ map (wanted_in (has_fields (text_sizes text))) (access_lines text)
   pub recorded_each : length (recorded opening asked) ≡ length (access_lines text)
   pub steps : List ℕ
   pub step_each : length steps ≡ length (access_lines text)

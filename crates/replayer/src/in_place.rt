@@ -7,7 +7,8 @@ use crate::{Stepped, step};
 use pending::Run;
 
 // The access that was done, as in `Stepped`; the run is where it was lent.
-#[derive(Clone, Copy)]
+// Kept: a number and no Result, as in `Stepped`.
+#[derive(Clone, Copy, Debug, PartialEq, Eq)]
 pub struct Step {
     pub number: u32,
     pub offset: usize,

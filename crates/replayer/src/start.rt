@@ -3,7 +3,6 @@ ghost use Rattle.std.specs.Prelude.{◌≡◌};
 ghost use Rattle.codec.specs.Reason.{number_of};
 ghost use Rattle.replayer.specs.OpenOf.{starts_of, begun_of, refused_open};
 ghost use Rattle.replayer.specs.OpenedOf.{counted};
-ghost use Rattle.pending.specs.Run.{blank_tasks};
 
 use crate::Opened;
 use codec::limit::TASKS;
@@ -12,33 +11,20 @@ use pending::{Run, TaskRun};
 use reader::Span;
 use reader::layout::Layout;
 
-fn blank_tasks() -> [TaskRun; TASKS]
-    ensures { result ≡ blank_tasks }
-{
-    let blank = TaskRun {
-        place: 0,
-        end: 0,
-        done: 0,
-        count: 0,
-    };
-    [blank; TASKS]
-}
-
 // The first `tasks` tasks at the start of their bodies; a run has 16.
 fn starts(spans: [Span; TASKS], tasks: usize) -> [TaskRun; TASKS]
     ensures { result ≡ starts_of spans tasks }
 {
-    let mut runs = blank_tasks();
+    let mut runs = [TaskRun::default(); TASKS];
     let few = tasks.min(TASKS);
     for t in 0..few {
         let s = spans[t];
-        let x = TaskRun {
+        runs[t] = TaskRun {
             place: s.start,
             end: s.stop,
             done: 0,
             count: s.accesses,
         };
-        runs[t] = x;
     }
     runs
 }
@@ -47,13 +33,11 @@ fn starts(spans: [Span; TASKS], tasks: usize) -> [TaskRun; TASKS]
 pub fn started(l: Layout) -> Run
     ensures { result ≡ begun_of l }
 {
-    let spans = l.spans;
-    let runs = starts(spans, l.tasks);
     Run {
         tasks: l.tasks,
         objects: l.objects,
         fields: l.fields,
-        runs,
+        runs: starts(l.spans, l.tasks),
     }
 }
 
@@ -61,17 +45,10 @@ pub fn started(l: Layout) -> Run
 pub(crate) fn refused(reason: Reason, offset: usize) -> Opened
     ensures { result ≡ counted (refused_open (number_of reason) offset) 0 }
 {
-    let runs = blank_tasks();
-    let run = Run {
-        tasks: 0,
-        objects: 0,
-        fields: 0,
-        runs,
-    };
     Opened {
         number: reason.number(),
         offset,
         records: 0,
-        run,
+        run: Run::default(),
     }
 }

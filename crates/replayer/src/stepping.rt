@@ -19,6 +19,7 @@ use pending::sound::sound;
 use pending::{Run, TaskRun};
 
 // The checks before the bytes: 17, 3, 5, 15.
+#[tactic(auto, unfolding(crate::specs::StepOf::early_number))]
 pub(crate) fn check_early(run: Run, size: usize, entries: usize, task: usize) -> Result<(), Reason>
     ensures { number_in result ≡ early_number run size entries task }
 {

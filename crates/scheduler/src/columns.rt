@@ -5,7 +5,8 @@ ghost use Rattle.scheduler.specs.Laws.Columns.{columns_of, run_of};
 use codec::limit::TASKS;
 use pending::{Run, TaskRun};
 
-#[derive(Clone, Copy)]
+// Kept: parallel arrays, since the orderings are compared with the accesses done as one array, which an array of tasks would hold a second time.
+#[derive(Clone, Copy, Debug, PartialEq, Eq)]
 pub struct Columns {
     pub places: [usize; TASKS],
     pub ends: [usize; TASKS],
@@ -36,13 +37,7 @@ pub fn run_of(
 ) -> Run
     ensures { result ≡ run_of tasks objects fields places.now ends.now dones.now counts.now }
 {
-    let blank = TaskRun {
-        place: 0,
-        end: 0,
-        done: 0,
-        count: 0,
-    };
-    let mut runs = [blank; TASKS];
+    let mut runs = [TaskRun::default(); TASKS];
     for t in 0..TASKS {
         runs[t] = TaskRun {
             place: places[t],

@@ -19,6 +19,7 @@ pub struct Chosen {
 // Tests the tasks from 0 on until one may go: it moves on to the place after its access, with one more done. What was found about the
 // waiting tasks is kept in the notes. The access is rebuilt from its fields: as a whole it was copied by loads that wait for several stores.
 // Kept: ten parameters, since each column is lent by itself: some to be written and some only to be read, which one struct would not tell.
+#[inline(always)]
 pub fn lowest(
     tasks: usize,
     objects: usize,

@@ -12,8 +12,9 @@ use pending::TaskRun;
 use pending::next::{Open, first_unmet, look_at};
 
 // The next access of a task if it may be done. The note of a task is the place of the access's record and the place of the
-// first ordering before it that was unmet. A step goes past that record, and the note then says nothing. The limits are made only where there are
-// records to read: a task that waits or has finished is asked for at every step.
+// first ordering before it that was unmet. A step goes past that record, and the note then says nothing.
+// Kept: the limits by their numbers, made only where there are records to read: a task that waits or has finished is asked for at every step.
+#[inline(always)]
 pub(crate) fn visit(
     x: TaskRun,
     bytes: &[u8],

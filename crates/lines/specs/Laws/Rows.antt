@@ -13,7 +13,7 @@ use Rattle.lines.specs.Number.{number_limit}
 use Rattle.lines.specs.Words.{words_of}
 use Rattle.reader.specs.Parse.{all_below}
 use borrow.Author.Tests.{lt-ltb}
-use Rattle.lines.specs.Rows.{is_row, values_of, numbers_of, number_at, sizes_of, names_field, fields_in}
+use Rattle.lines.specs.Rows.{is_row, values_of, numbers_of, number_at, sizes_of, has_fields, fields_in}
 
 pub numbers-some : (n : ℕ) (f : List Field) → is_row n f ≡ true → numbers_of n f ≡ Some (values_of f)
 unfolding numbers_of
@@ -68,6 +68,9 @@ unfolding all_below
 all-low [] = refl
 all-low (w ∷ ws) = rw (lt-ltb (value_of (field_of w)) number_limit (field-low w)) (all-low ws)
 
+pub numbers_low : (line : List ℕ) (i : ℕ) → number_at (fields_of line) i < number_limit
+numbers_low line i = at-low (words_of line) i
+
 pub values_low : (line : List ℕ) → all_below number_limit (values_of (fields_of line)) ≡ true
 values_low line = all-low (words_of line)
 
@@ -85,7 +88,7 @@ sizes_low line z e =
     ]
 
 -- a line without F has 0 for it
-pub sizes_unnamed : (z : Sizes) → names_field z ≡ false → fields_in z ≡ 0
+pub sizes_unnamed : (z : Sizes) → has_fields z ≡ false → fields_in z ≡ 0
 sizes_unnamed z h = none (z.fields) h
   where
     none : (o : Option ℕ) → is_some o ≡ false → unwrap_or o 0 ≡ 0

@@ -1,10 +1,7 @@
-use mathlib.Core.Path.{◌≡◌, refl, sym, ap, ◌∙◌}
-use native.Mathlib.Omega.{arith}
-use lib.ListN.{length, take, length-set}
+use mathlib.Core.Path.{◌≡◌}
+use lib.ListN.{length, take}
 use Prim.Native.Nat.{◌≤◌, ◌-◌}
-use lib.Seq.{take_all}
 use Rattle.codec.specs.Store.{store}
-use Rattle.pause.specs.Laws.Widen.{widen_start, widen_on}
 use Rattle.pause.proofs.widen.Given as goal
 
 abbrev pub invariant-loop-i : goal.invariant-loop-i

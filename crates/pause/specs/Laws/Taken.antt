@@ -3,7 +3,7 @@ use Rattle.std.specs.Prelude.{◌≡◌, true, false, List, [], ◌∷◌, ℕ, 
 use Rattle.std.proofs.Math.Path.{refl}
 use Rattle.std.proofs.Common.{sym, ap, ◌∙◌, eqb-true}
 use Rattle.codec.specs.Laws.Decide.{passes, fails, split}
-use Rattle.entries.specs.Reading.{stop}
+use Rattle.entries.specs.Reading.{numbered}
 use Rattle.replay_lines.specs.Block.{turned_line}
 use Rattle.replay_lines.specs.Lines.{line_of}
 use Rattle.scheduler.specs.Finish.{Play, takes_step, stepped_by}
@@ -39,7 +39,7 @@ module _ (b : List ℕ) (most : ℕ) (counts : List ℕ) where
     taken : takes_step b x t ≡ true → followed_of b most counts x (t ∷ steps) ≡ in_front (line_of t (answer_at b x t)) (followed_of b most counts (stepped_by b x t) steps) → FirstStep x t steps
     passed : followed_of b most counts x (t ∷ steps) ≡ in_front (turned_line t (answer_at b x t).number) (followed_of b most counts x steps) → FirstStep x t steps
     stopping : is_passed (answer_at b x t).number ≡ false
-        → followed_of b most counts x (t ∷ steps) ≡ record { text = []; play = x; stopped = stop (answer_at b x t).number (answer_at b x t).offset } → FirstStep x t steps
+        → followed_of b most counts x (t ∷ steps) ≡ record { text = []; play = x; stopped = numbered (answer_at b x t).number (answer_at b x t).offset } → FirstStep x t steps
 
   first_step : (x : Play) (t : ℕ) (steps : List ℕ) → FirstStep x t steps
   unfolding followed_of tried_of

@@ -1,5 +1,5 @@
 -- For every text that `record` makes a recording of, `replay` shows each of its accesses and the memory it leaves.
-use Rattle.std.specs.Prelude.{Bool, true, false, ◌&&◌, ◌≡◌, refl, ℕ, zero, suc, ◌+◌, eqb, length, replicate}
+use Rattle.std.specs.Prelude.{Ok, Bool, true, false, ◌&&◌, ◌≡◌, refl, ℕ, zero, suc, ◌+◌, eqb, length, replicate}
 use mathlib.Core.List.{List, [], ◌∷◌, ◌++◌, append-nil}
 use Rattle.std.proofs.Common.{sym, ap, ◌∙◌, arith, eq-eqb, ne_eqb}
 use Rattle.std.proofs.Math.Path.{subst, fun_ext}
@@ -14,7 +14,6 @@ use Rattle.history.specs.Replay.{one_more}
 use Rattle.codec.specs.Bit.{bit}
 use Rattle.reader.specs.Parse.{Parsed, parse}
 use Rattle.entries.specs.declared.Checked.{Checked}
-use Rattle.entries.specs.Reading.{read as reads}
 use Rattle.replayer.specs.declared.Stepped.{Stepped}
 use Rattle.scheduler.specs.Finish.{stepped_by, Play}
 use Rattle.replayer.specs.OpenOf.{opened_run}
@@ -94,7 +93,7 @@ module _ (o : Opening) (asked : List Asked) (outs : ℕ → List ℕ) (lent : Li
 
 -- a recording that the replay opens, played with always the lowest ready task
 module _ (o : Opening) (asked : List Asked) (outs : ℕ → List ℕ) (lent : List ℕ) (a : Accepted o asked outs lent) (each : length lent ≡ cells_by o)
-    (p : Parsed) (e : parse (recording_of o asked outs) ≡ reads p) (same : p.recording ≡ recording_by o asked) where
+    (p : Parsed) (e : parse (recording_of o asked outs) ≡ Ok p) (same : p.recording ≡ recording_by o asked) where
   abbrev b : List ℕ
   b = recording_of o asked outs
 

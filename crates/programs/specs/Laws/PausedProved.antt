@@ -1,10 +1,9 @@
 -- For every text that `record` makes a recording of, no step stops `replay`, and where it pauses depends only on what each task has done.
-use Rattle.std.specs.Prelude.{true, List, ◌++◌, ◌≡◌, refl, ℕ, length, replicate}
+use Rattle.std.specs.Prelude.{Ok, true, List, ◌++◌, ◌≡◌, refl, ℕ, length, replicate}
 use Rattle.std.proofs.Common.{inl, inr, sym, ap, ◌∙◌, ne_eqb}
 use Rattle.std.proofs.Math.Decide.{ℕ_discrete}
 use Rattle.std.proofs.lemmas.List.{length-replicate}
 use Rattle.codec.specs.Laws.Decide.{never}
-use Rattle.entries.specs.Reading.{read as reads}
 use Rattle.fidelity.specs.Box.{Opening, Asked, last_box, recording_of, recording_by, cells_by}
 use Rattle.fidelity.specs.Laws.BoxMatches.{parsed_by}
 use Rattle.fidelity.proofs.Laws.BoxMatches.{recording-parsed}
@@ -32,7 +31,7 @@ refused-passed n (inr (inl p)) = rw p
 refused-passed n (inr (inr p)) = rw p
 
 module _ (o : Opening) (asked : List Asked) (outs : ℕ → List ℕ) (lent : List ℕ) (a : Accepted o asked outs lent) (each : length lent ≡ cells_by o)
-    (p : Parsed) (e : parse (recording_of o asked outs) ≡ reads p) (same : p.recording ≡ recording_by o asked) where
+    (p : Parsed) (e : parse (recording_of o asked outs) ≡ Ok p) (same : p.recording ≡ recording_by o asked) where
   abbrev b : List ℕ
   b = recording_of o asked outs
 
@@ -60,7 +59,7 @@ module _ (o : Opening) (asked : List Asked) (outs : ℕ → List ℕ) (lent : Li
       let y = taken s in
       ap (ending_of b) (sym x.leads ∙ one_place o asked outs lent a each p e same x.steps y.steps x.all y.all (rw (x.leads, y.leads) d) ∙ y.leads)
 
-  writes : (q : Request) → has_counts q.counts p.recording.tasks ≡ true → (answer_of q b (reads p)).text ≡ (followed_by q b p).text ++ ending_of b (followed_by q b p).play
+  writes : (q : Request) → has_counts q.counts p.recording.tasks ≡ true → (answer_of q b (Ok p)).text ≡ (followed_by q b p).text ++ ending_of b (followed_by q b p).play
   unfolding answer_of told_of
   writes q k = rw (k, goes_on_lem q)
 

@@ -1,15 +1,15 @@
 -- A text's session is the result of a list of calls from its opening, all of them accepted, with the bytes in its logs counted.
-use Rattle.std.specs.Prelude.{◌≡◌, Bool, true, false, cond, ◌&&◌, eqb, ltb, length, take, replicate}
+use Rattle.std.specs.Prelude.{◌≡◌, Option, Some, None, Bool, true, false, cond, ◌&&◌, eqb, ltb, length, take, replicate}
 use Rattle.std.proofs.Math.Path.{refl, ap, sym}
 use Rattle.std.proofs.Common.{◌∙◌, add-one}
 use mathlib.Core.List.{List, [], ◌∷◌, ◌++◌, map, map-append, append_assoc, append-nil}
 use Prim.Native.Nat.{ℕ, zero, suc, ◌+◌, ◌-◌, ◌<◌, ◌≤◌}
 use native.Mathlib.Omega.{arith}
-use borrow.Author.Tests.{ne_eqb, eqb-true, eqb-false, ltb-true}
+use borrow.Author.Tests.{ne_eqb, eqb-true, eqb-false}
 use Rattle.std.proofs.Math.ListN.{length-append}
 use Rattle.std.proofs.lemmas.List.{length-replicate}
 use Rattle.codec.specs.Cell.{cell_of}
-use Rattle.codec.specs.Laws.Decide.{passes, fails, split, both_pass}
+use Rattle.codec.specs.Laws.Decide.{passes, fails, split}
 use Rattle.history.specs.History.{History}
 use Rattle.recorder.specs.AccessOf.{is_write, access_number, accepted, refused, access_of, value_after}
 use Rattle.recorder.proofs.Laws.Accepted.{number-takes, written-length as entry-written}
@@ -20,12 +20,18 @@ use Rattle.fidelity.proofs.Laws.FirstBox.{follows_last}
 use Rattle.codec.specs.Laws.Store.{store-front}
 use Rattle.programs.specs.Laws.Numbered.{Numbered}
 use Rattle.programs.specs.Wanted.{wanted_in, wanted_by}
-use Rattle.lines.specs.Asked.{malformed_line, asked_by, plain_of, fielded_of, asked_of, is_number}
+use Rattle.lines.specs.Asked.{read_by, write_by, plain_of, fielded_of, asked_of}
+use Rattle.lines.specs.declared.field.Field.{Field}
+use Rattle.lines.specs.Field.{is_number, value_of}
+use Rattle.lines.specs.Laws.Rows.{numbers_low}
+use Rattle.lines.specs.Number.{number_limit}
+use Rattle.std.specs.Option.{unwrap_or}
+use Rattle.std.proofs.lemmas.Option.{none-some, same_Some}
 use Rattle.lines.specs.declared.asked.Asked.{Asked as AskedLine}
 use Rattle.lines.specs.Fields.{fields_of}
 use Rattle.lines.specs.Lines.{Line}
 use Rattle.logs.specs.Laws.Room.{access-same}
-use Rattle.logs.specs.Session.{Session, most, names_field, call_of, stopped_at, asking, judged, fed, fed_all}
+use Rattle.logs.specs.Session.{Session, most, names_field, sort_of, call_of, stopped_at, asking, judged, fed, fed_all}
 
 -- the number of bytes in the logs of the tasks below k
 unfoldable pub sum_logs : (ℕ → List ℕ) → ℕ → ℕ
@@ -77,28 +83,32 @@ written-length s task object field sort value memory out = elim (split (eqb (acc
 ]
 
 -- a line that is not malformed has a value that fits
-value-fits : (right : Bool) (t o i v sort : ℕ) → (asked_by right t o i v sort).good ≡ true → (asked_by right t o i v sort).value < 4294967296
-unfolding asked_by
-value-fits right t o i v sort g = elim (split (right && (is_number t && (is_number o && (is_number i && is_number v))))) [
-  | passes p ↦
-      let a = (both_pass right (is_number t && (is_number o && (is_number i && is_number v))) p).1 in
-      let b = (both_pass (is_number o) (is_number i && is_number v) (both_pass (is_number t) (is_number o && (is_number i && is_number v)) a).1).1 in
-      rw p (ltb-true v 4294967296 (both_pass (is_number i) (is_number v) b).1)
-  | fails p ↦ rw p (omega arith)
+read-fits : (right : Bool) (t o i : Field) (a : AskedLine) → read_by right t o i ≡ Some a → unwrap_or a.value 0 < number_limit
+unfolding read_by
+read-fits right t o i a e = elim (split (right && (is_number t && (is_number o && is_number i)))) [
+  | passes p ↦ rw (← same_Some _ _ (rw p at e)) (omega arith)
+  | fails p ↦ absurd (none-some a (rw p at e))
+]
+
+write-fits : (right : Bool) (t o i v : Field) (a : AskedLine) → value_of v < number_limit → write_by right t o i v ≡ Some a → unwrap_or a.value 0 < number_limit
+unfolding write_by
+write-fits right t o i v a h e = elim (split (right && (is_number t && (is_number o && (is_number i && is_number v))))) [
+  | passes p ↦ rw (← same_Some _ _ (rw p at e)) h
+  | fails p ↦ absurd (none-some a (rw p at e))
 ]
 
 -- the two lengths that a line may have
-fits_by : (f : List ℕ) (n : ℕ) (x y : AskedLine) → (x.good ≡ true → x.value < 4294967296) → (y.good ≡ true → y.value < 4294967296) →
-    let a = cond (eqb (length f) n) x (cond (eqb (length f) (n + 1)) y malformed_line) in a.good ≡ true → a.value < 4294967296
-fits_by f n x y h k g = elim (split (eqb (length f) n)) [
-  | passes p ↦ rw p (h (rw p at g))
-  | fails p ↦ elim (split (eqb (length f) (n + 1))) [ passes q ↦ rw (p, q) (k (rw (p, q) at g)) | fails q ↦ rw (p, q) (omega arith) ]
+fits_by : (f : List Field) (n : ℕ) (x y : Option AskedLine) (a : AskedLine) → (x ≡ Some a → unwrap_or a.value 0 < number_limit) → (y ≡ Some a → unwrap_or a.value 0 < number_limit)
+    → cond (eqb (length f) n) x (cond (eqb (length f) (n + 1)) y None) ≡ Some a → unwrap_or a.value 0 < number_limit
+fits_by f n x y a h k g = elim (split (eqb (length f) n)) [
+  | passes p ↦ h (rw p at g)
+  | fails p ↦ elim (split (eqb (length f) (n + 1))) [ passes q ↦ k (rw (p, q) at g) | fails q ↦ absurd (none-some a (rw (p, q) at g)) ]
 ]
 
-asked-fits : (named : Bool) (f : List ℕ) → (asked_of named f).good ≡ true → (asked_of named f).value < 4294967296
+asked-fits : (named : Bool) (line : List ℕ) (a : AskedLine) → asked_of named (fields_of line) ≡ Some a → unwrap_or a.value 0 < number_limit
 unfolding plain_of fielded_of
-asked-fits true f g = fits_by f 4 _ _ (value-fits _ _ _ _ _ _) (value-fits _ _ _ _ _ _) g
-asked-fits false f g = fits_by f 3 _ _ (value-fits _ _ _ _ _ _) (value-fits _ _ _ _ _ _) g
+asked-fits true line a g = fits_by (fields_of line) 4 _ _ a (read-fits _ _ _ _ a) (write-fits _ _ _ _ _ a (numbers_low line 4)) g
+asked-fits false line a g = fits_by (fields_of line) 3 _ _ a (read-fits _ _ _ _ a) (write-fits _ _ _ _ _ a (numbers_low line 3)) g
 
 module _ (o : Opening) (z : (opened_by o).answer.number ≡ 0) (base : ℕ) where
   abbrev named : Bool
@@ -125,22 +135,21 @@ module _ (o : Opening) (z : (opened_by o).answer.number ≡ 0) (base : ℕ) wher
     counted = λ e. absurd (let z : ⊥ = omega arith in z);
   }
 
-  ran_asking : (ls : List Line) (s : Session) (l : Line) → 1 ≤ l.number → s.line ≡ 0 → Ran ls s → (asked_of named (fields_of l.bytes)).good ≡ true
-      → Ran (ls ++ (l ∷ [])) (asking s l.number (call_of s.total (asked_of named (fields_of l.bytes))))
+  ran_asking : (ls : List Line) (s : Session) (l : Line) → 1 ≤ l.number → s.line ≡ 0 → Ran ls s → (a : AskedLine) → asked_of named (fields_of l.bytes) ≡ Some a
+      → Ran (ls ++ (l ∷ [])) (asking s l.number (call_of s.total a))
   unfolding asking called outcome
-  ran_asking ls s l h i r g =
-      let a = asked_of named (fields_of l.bytes) in
+  ran_asking ls s l h i r a g =
       let b = s.box in
       let c = call_of s.total a in
-      let v = asked-fits named (fields_of l.bytes) g in
+      let v = asked-fits named l.bytes a g in
       let x : Asked = record { call = Call.access c; fits = v } in
-      let same = access-same b.state a.task a.object a.field a.sort a.value b.memory (replicate (most - s.total) 0) (most - s.total) (length-replicate {A = ℕ} (most - s.total) 0) in
+      let same = access-same b.state a.task a.object a.field (sort_of a.value) (unwrap_or a.value 0) b.memory (replicate (most - s.total) 0) (most - s.total) (length-replicate {A = ℕ} (most - s.total) 0) in
       elim (split (eqb (outcome b c).answer.number 0)) [
         | fails p ↦ rw p (ran_stop ls s l l.number (outcome b c).answer.number h r)
         | passes p ↦
-            let t = number-takes b.state a.task a.object a.field a.sort a.value b.memory (replicate (most - s.total) 0) (eqb-true _ _ p) in
+            let t = number-takes b.state a.task a.object a.field (sort_of a.value) (unwrap_or a.value 0) b.memory (replicate (most - s.total) 0) (eqb-true _ _ p) in
             let e : b.state.tasks ≡ o.tasks = ap (λ (y : Box). y.state.tasks) r.box ∙ (follows_last o z r.asked).tasks_are in
-            let w = written-length b.state a.task a.object a.field a.sort a.value b.memory (replicate (most - s.total) 0) in
+            let w = written-length b.state a.task a.object a.field (sort_of a.value) (unwrap_or a.value 0) b.memory (replicate (most - s.total) 0) in
             let m = sum_more b.logs (take (outcome b c).answer.written (outcome b c).out) a.task o.tasks (omega (arith, t.facts.accepts.task_low, e)) in
             let k = count-more [] (first_box o) r.asked c v (ap (λ (y : Box). accepts y c) (sym r.box) ∙ p) in
             rw p (record {
@@ -148,17 +157,23 @@ module _ (o : Opening) (z : (opened_by o).answer.number ≡ 0) (base : ℕ) wher
               box = ap (λ (y : Box). called y c) r.box ∙ sym (last_more (first_box o) r.asked x);
               total = omega (arith, r.total, m, w);
               fits = omega (arith, r.fits, same.within);
-              asks = λ _. rw (map-append wanted_by r.asked (x ∷ []), map-append (wanted_in named) ls (l ∷ []), r.asks i);
+              asks = λ _. rw (map-append wanted_by r.asked (x ∷ []), map-append (wanted_in named) ls (l ∷ []), r.asks i, g);
               counted = λ _. rw length-append (omega (arith, k, r.counted i));
             })
       ]
+
+  ran_judged : (ls : List Line) (s : Session) (l : Line) → 1 ≤ l.number → s.line ≡ 0 → Ran ls s → (a : Option AskedLine) → asked_of named (fields_of l.bytes) ≡ a
+      → Ran (ls ++ (l ∷ [])) (judged s l.number a)
+  unfolding judged
+  ran_judged ls s l h i r None g = ran_stop ls s l l.number 0 h r
+  ran_judged ls s l h i r (Some a) g = ran_asking ls s l h i r a g
 
   -- the state keeps the opening's number of fields
   names : (ls : List Line) (s : Session) → Ran ls s → names_field s.box.state ≡ named
   names ls s r = ap (λ (y : Box). ltb 0 y.state.fields) r.box ∙ ap (ltb 0) (follows_last o z r.asked).fields_are
 
   ran_fed : (ls : List Line) (s : Session) (l : Line) → 1 ≤ l.number → Ran ls s → Ran (ls ++ (l ∷ [])) (fed s l)
-  unfolding fed judged
+  unfolding fed
   ran_fed ls s l h r = elim (split (eqb s.line 0)) [
     | fails p ↦ rw p (record {
       asked = r.asked;
@@ -168,10 +183,7 @@ module _ (o : Opening) (z : (opened_by o).answer.number ≡ 0) (base : ℕ) wher
       asks = λ e. absurd (eqb-false _ _ p e);
       counted = λ e. absurd (eqb-false _ _ p e);
     })
-    | passes p ↦ elim (split (asked_of named (fields_of l.bytes)).good) [
-      | fails g ↦ rw (p, names ls s r, g) (ran_stop ls s l l.number 0 h r)
-      | passes g ↦ rw (p, names ls s r, g) (ran_asking ls s l h (eqb-true _ _ p) r g)
-    ]
+    | passes p ↦ rw (p, names ls s r) (ran_judged ls s l h (eqb-true _ _ p) r (asked_of named (fields_of l.bytes)) refl)
   ]
 
   pub ran_all : (before : List Line) (s : Session) (ls : List Line) → Numbered ls → Ran before s → Ran (before ++ ls) (fed_all s ls)

@@ -1,11 +1,13 @@
 -- The opening of a text is one of demand 3: with the first line's F, or the old one if that line has none.
-use Rattle.std.specs.Prelude.{true, false, List, ◌≡◌, refl, ℕ, zero, suc, ◌≤◌, ltb, replicate}
-use Rattle.std.proofs.Common.{sym, arith, lt-ltb}
+use Rattle.std.specs.Prelude.{List, ◌≡◌, refl, ℕ, zero, suc, ◌≤◌, ltb, replicate}
+use Rattle.std.proofs.Common.{arith, lt-ltb}
 use Rattle.codec.specs.Laws.Decide.{passes, fails, split}
 use Rattle.reader.specs.Range.{AllUnder}
-use Rattle.opening.specs.OpenOf.{OpenOutcome, open_of, open_fields_of}
+use Rattle.opening.specs.OpenOf.{open_of, open_fields_of}
 use Rattle.fidelity.specs.Box as box
 use Rattle.lines.specs.declared.rows.Sizes.{Sizes}
+use Rattle.lines.specs.Laws.Rows.{sizes_unnamed}
+use Rattle.lines.specs.Rows.{has_fields, fields_in}
 use Rattle.logs.specs.Laws.Room.{opening_facts}
 use Rattle.script.specs.RecordOf.{longest_head, open_sized, starts_of, opening}
 
@@ -13,7 +15,7 @@ abbrev pub opened_in : (z : Sizes) (owners starts : List ℕ) → AllUnder 42949
 opened_in z owners starts under = record {
   tasks = z.tasks;
   objects = z.objects;
-  fields = z.fields;
+  fields = fields_in z;
   owners = owners;
   starts = starts;
   memory = replicate (starts_of z) 0;
@@ -31,12 +33,12 @@ by_some zero o h = absurd (let z : ⊥ = omega arith in z)
 by_some (suc n) o h = refl
 
 -- an accepted opening; lines name a field exactly if it has fields
-pub sized_open : (z : Sizes) (owners starts : List ℕ) (under : AllUnder 4294967296 starts) → (z.named ≡ false → z.fields ≡ 0)
-    → (opening z owners starts).answer.number ≡ 0 → (box.opened_by (opened_in z owners starts under) ≡ opening z owners starts) × (ltb 0 z.fields ≡ z.named)
+pub sized_open : (z : Sizes) (owners starts : List ℕ) (under : AllUnder 4294967296 starts)
+    → (opening z owners starts).answer.number ≡ 0 → (box.opened_by (opened_in z owners starts under) ≡ opening z owners starts) × (ltb 0 (fields_in z) ≡ has_fields z)
 unfolding open_sized
-sized_open z owners starts under u h = elim (split z.named) [
-  | fails p ↦ let e = u p in rw p (by_none z.fields (opened_in z owners starts under) e, rw e)
+sized_open z owners starts under h = elim (split (has_fields z)) [
+  | fails p ↦ let e = sizes_unnamed z p in rw p (by_none (fields_in z) (opened_in z owners starts under) e, rw e)
   | passes p ↦
-      let f = (opening_facts 1 z.fields z.tasks z.objects owners starts (replicate (starts_of z) 0) (replicate longest_head 0) (rw p at h)).0 in
-      rw p (by_some z.fields (opened_in z owners starts under) f.some_fields, lt-ltb 0 z.fields f.some_fields)
+      let f = (opening_facts 1 (fields_in z) z.tasks z.objects owners starts (replicate (starts_of z) 0) (replicate longest_head 0) (rw p at h)).0 in
+      rw p (by_some (fields_in z) (opened_in z owners starts under) f.some_fields, lt-ltb 0 (fields_in z) f.some_fields)
 ]

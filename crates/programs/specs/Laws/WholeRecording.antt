@@ -1,7 +1,7 @@
 -- The recording of a text that nothing stopped is that of a whole run: no section is refused.
 use Rattle.std.specs.Prelude.{◌≡◌, eqb, ltb, replicate}
 use Rattle.std.proofs.Math.Path.{refl, ap}
-use Rattle.std.proofs.Common.{◌∙◌, sym}
+use Rattle.std.proofs.Common.{sym}
 use mathlib.Core.List.{List, [], ◌++◌}
 use Prim.Native.Nat.{ℕ, zero, suc, ◌+◌, ◌*◌, ◌-◌, ◌≤◌}
 use Rattle.std.proofs.Math.Numerals.{add-one}

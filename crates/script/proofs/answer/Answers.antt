@@ -29,5 +29,5 @@ returns-in-Ok c = let m = c.longest_recording-room in
     answer_so _ _ _ c.if-out-lt65536.false c.if-message-lt128.false _ _ (omega arith) m.result m.ensures (Ok c.in-Ok.written) _ c.if-text-gt1048576.false c.in-Ok.ensures (message-none c.args.text.now 0 0 _ refl)
 
 pub returns-in-Err : goal.returns-in-Err
-returns-in-Err c = let m = c.longest_recording-room in let p = c.put_message-told.ensures in
+returns-in-Err c = let m = c.longest_recording-room in let p = c.put_message.ensures in
     answer_so _ _ _ c.if-out-lt65536.false c.if-message-lt128.false _ _ p.upper_bound m.result m.ensures (Err c.in-Err.stop) _ c.if-text-gt1048576.false c.in-Err.ensures p.appended

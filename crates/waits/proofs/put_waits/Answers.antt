@@ -1,4 +1,4 @@
-use mathlib.Core.Path.{◌≡◌, refl, sym}
+use mathlib.Core.Path.{refl, sym}
 use native.Mathlib.Omega.{arith}
 use Rattle.text.specs.Laws.Appended.{joined, nothing}
 use Rattle.waits.proofs.Laws.Waits.{waits_none, waits_on, waits_short}
@@ -7,17 +7,8 @@ use Rattle.waits.proofs.put_waits.Goals as goal
 pub loop-t-init : goal.loop-t-init
 loop-t-init c = (omega arith, refl, rw (waits_none _ _) (nothing _ 0))
 
-pub offset_bounds-run-t : goal.offset_bounds-run-t
-offset_bounds-run-t c = omega (arith, c.requires.0.few_tasks)
-
-pub bounds-run-t : goal.bounds-run-t
-bounds-run-t c = omega (arith, c.requires.0.few_tasks)
-
 pub put_wait-at-requires : goal.put_wait-at-requires
 put_wait-at-requires c = let a = c.args in let l = c.loop-t in let s = c.requires.0 in (s.few_tasks, (s.task l.t (omega arith)).end, omega (arith, s.few_tasks, l.invariant.2.behind, waits_short a.bytes.now a.run l.t))
 
 pub loop-t-preserved : goal.loop-t-preserved
 loop-t-preserved c = let a = c.args in let l = c.loop-t in (omega arith, omega arith, rw (waits_on a.bytes.now a.run l.t) (joined l.invariant.2 (c.put_wait-at.ensures a.run (record { task = refl; limits = refl; counts = sym c.dones_of-dones.ensures }))))
-
-pub returns : goal.returns
-returns c = let l = c.loop-t in let e : l.t ≡ c.args.run.tasks = omega arith in rw e at l.invariant.2

@@ -20,17 +20,11 @@ passing : (c : In-loop-place) →
     Passing s.requires.limits s.args.bytes.now s.args.dones.now s.requires.from s.requires.end c.loop-place.place s.args.at (ordering_at s.args.bytes.now c.loop-place.place)
 passing c = let p = c.requires in turn c p.limits p.from p.end p.ahead
 
-pub loop-place-init : goal.loop-place-init
-loop-place-init c = λ m start end w. w
-
 pub source_at-source-requires : goal.source_at-source-requires
 source_at-source-requires c = (passing (goal.at.source_at-source-requires c).In-loop-place).room
 
 pub number_at-number-requires : goal.number_at-number-requires
 number_at-number-requires c = (passing (goal.at.number_at-number-requires c).In-loop-place).room
-
-pub offset_bounds-dones-source : goal.offset_bounds-dones-source
-offset_bounds-dones-source c = omega (arith, (passing (goal.at.offset_bounds-dones-source c).In-loop-place).below, c.source_at-source.ensures)
 
 pub bounds-dones-source : goal.bounds-dones-source
 bounds-dones-source c = omega (arith, (passing (goal.at.bounds-dones-source c).In-loop-place).below, c.source_at-source.ensures)
@@ -42,14 +36,8 @@ returns-then-dones-source c = λ m start end w. record {
   held = λ h. (turn (goal.at.returns-then-dones-source c).In-loop-place m start end w).unmet (rw (c.source_at-source.ensures, c.number_at-number.ensures) at c.if-dones-source.true);
 }
 
-pub overflow_cast-place : goal.overflow_cast-place
-overflow_cast-place c = omega (arith, c.length_of.ensures)
-
 pub overflow_add-place : goal.overflow_add-place
 overflow_add-place c = omega (arith, (passing (goal.at.overflow_add-place c).In-loop-place).room, c.length_of.ensures)
-
-pub loop-place-smaller : goal.loop-place-smaller
-loop-place-smaller c = omega (arith, c.loop-place-test.true, c.length_of.ensures)
 
 pub loop-place-preserved : goal.loop-place-preserved
 loop-place-preserved c = rw c.length_of.ensures (λ m start end w. (turn (goal.at.loop-place-preserved c).In-loop-place m start end w).met (rw (c.source_at-source.ensures, c.number_at-number.ensures) at c.if-dones-source.false))

@@ -32,9 +32,6 @@ good c = rw (c.get16-source.ensures, c.get16-number.ensures) at (sym c.ordering_
 low : (c : Else-not-ordering_ok) → (position_at (rest c.args.bytes.now c.loop-place.place c.args.end)).task < max_tasks
 low c = let b = ordering-below _ _ (good c) in omega (arith, b, c.requires.0)
 
-pub loop-place-init : goal.loop-place-init
-loop-place-init c = λ r w. w
-
 pub returns-then-not-is_ordering : goal.returns-then-not-is_ordering
 returns-then-not-is_ordering c =
     c.loop-place.invariant c.access_stands.result
@@ -54,9 +51,6 @@ returns-then-not-ordering_ok c =
     (there (goal.at.returns-then-not-ordering_ok c).Else-not-is_ordering)
     (rw (c.get16-source.ensures, c.get16-number.ensures) at (sym c.ordering_ok.ensures ∙ c.if-not-ordering_ok.true)))
 
-pub offset_bounds-dones-source : goal.offset_bounds-dones-source
-offset_bounds-dones-source c = omega (arith, c.get16-source.ensures, low (goal.at.offset_bounds-dones-source c).Else-not-ordering_ok)
-
 pub bounds-dones-source : goal.bounds-dones-source
 bounds-dones-source c = omega (arith, c.get16-source.ensures, low (goal.at.bounds-dones-source c).Else-not-ordering_ok)
 
@@ -66,15 +60,6 @@ returns-then-dones-source c =
     (opens_unmet c.args.limits c.args.bytes.now c.args.dones.now c.loop-place.place c.args.end c.loop-place-test.true c.requires.1
     (there (goal.at.returns-then-dones-source c).Else-not-is_ordering) (good (goal.at.returns-then-dones-source c).Else-not-ordering_ok)
     (low (goal.at.returns-then-dones-source c).Else-not-ordering_ok) (rw (c.get16-source.ensures, c.get16-number.ensures) at c.if-dones-source.true))
-
-pub overflow_cast-place : goal.overflow_cast-place
-overflow_cast-place c = omega (arith, c.length_of.ensures)
-
-pub overflow_add-place : goal.overflow_add-place
-overflow_add-place c = omega (arith, c.length_of.ensures)
-
-pub loop-place-smaller : goal.loop-place-smaller
-loop-place-smaller c = omega (arith, c.length_of.ensures)
 
 pub loop-place-preserved : goal.loop-place-preserved
 loop-place-preserved c =

@@ -1,6 +1,5 @@
 use native.Mathlib.Omega.{arith}
-use mathlib.Core.Path.{◌≡◌, sym, ◌∙◌}
-use Prim.Native.Nat.{◌-◌}
+use mathlib.Core.Path.{sym, ◌∙◌}
 use borrow.Author.Tests.{le-leb, lt-leb}
 use Rattle.codec.specs.Limit.{max_tasks, max_fields}
 use Rattle.codec.specs.Laws.Limit.{within_facts}
@@ -19,9 +18,6 @@ returns-then-not-within-2 c = rw (sym c.within.ensures ∙ c.if-not-within.false
 pub returns-then-run-gt-FIELDS : goal.returns-then-run-gt-FIELDS
 unfolding sound_of
 returns-then-run-gt-FIELDS c = rw (sym c.within.ensures ∙ c.if-not-within.false, sym c.within-2.ensures ∙ c.if-not-within-2.false, lt-leb c.args.run.fields max_fields c.if-run-gt-FIELDS.true)
-
-pub loop-t-init : goal.loop-t-init
-loop-t-init c = let o : c.args.run.tasks - 0 ≡ c.args.run.tasks = omega arith in (omega arith, rw o)
 
 pub offset_bounds-run-t : goal.offset_bounds-run-t
 offset_bounds-run-t c = omega (arith, (within_facts 1 max_tasks c.args.run.tasks (sym c.within.ensures ∙ c.if-not-within.false)).1, c.loop-t-test.true)

@@ -105,9 +105,6 @@ returns-in-Some c = let a = c.args in
     let l = lowest-next _ _ _ _ _ n in
     record { value = sym l.0 ∙ ap (λ (r : Run). lowest_of r a.bytes.now) i.3; counts_after = columned_moved w n ∙ sym l.1 ∙ ap (λ (r : Run). after_of r a.bytes.now) i.3; columned = columned_on w n }
 
-pub overflow_step-t : goal.overflow_step-t
-overflow_step-t c = omega (arith, c.loop-t-test.true, few (goal.at.overflow_step-t c).In-loop-t)
-
 pub returns : goal.returns
 returns c = let a = c.args in
     let i = c.loop-t.invariant in

@@ -1,7 +1,7 @@
 use borrow.Author.Rules.{rules}
 use mathlib.Core.Path.{◌≡◌, sym, ◌∙◌}
 use native.Mathlib.Omega.{arith}
-use lib.ListN.{length, length-set}
+use lib.ListN.{length}
 use Rattle.pending.specs.declared.Run.{Run}
 use Rattle.pending.specs.Laws.Moved.{Shaped}
 use Rattle.scheduler.specs.Laws.Columns.{run_of}
@@ -39,12 +39,6 @@ loop-steps-init c = let r = c.args.run in
     let s = shaped (goal.at.loop-steps-init c).Start in
     (columned_none _ r _ k.ensures s (sym c.sound.ensures ∙ c.if-not-sound.false), rw (columns_back r k.result k.ensures s) (writing_none _ _ _))
 
-pub lowest-next-requires : goal.lowest-next-requires
-lowest-next-requires c = c.loop-steps.invariant.0
-
-pub shape_of-out-in_default : goal.shape_of-out-in_default
-shape_of-out-in_default c = c.loop-steps.invariant.1.long
-
 pub returns-in_default : goal.returns-in_default
 returns-in_default c =
     let both = let i = c.loop-steps.invariant in
@@ -55,17 +49,8 @@ returns-in_default c =
 pub overflow_cast-out : goal.overflow_cast-out
 overflow_cast-out c = omega (arith, (found (goal.at.overflow_cast-out c).In-Some).is.few)
 
-pub bounds-out-steps : goal.bounds-out-steps
-bounds-out-steps c = omega (arith, c.loop-steps-test.true, c.loop-steps.invariant.1.long)
-
-pub loop-steps-smaller : goal.loop-steps-smaller
-loop-steps-smaller c = simp length-set (omega (arith, c.loop-steps-test.true))
-
 pub loop-steps-preserved : goal.loop-steps-preserved
 loop-steps-preserved c = let f = found (goal.at.loop-steps-preserved c).In-Some in (c.lowest-next.ensures.columned, writing_more _ _ _ _ _ _ c.loop-steps.invariant.1 _ _ _ (omega (arith, c.loop-steps-test.true, c.loop-steps.invariant.1.long)) f.is _ f.run)
-
-pub shape_of-out : goal.shape_of-out
-shape_of-out c = c.loop-steps.invariant.1.long
 
 pub returns : goal.returns
 returns c =

@@ -3,8 +3,8 @@ use Rattle.text.specs.Laws.Appended.{same_room}
 use Rattle.script.specs.Laws.MessageCode.{number_room, number_behind, message-none, message-line}
 use Rattle.script.proofs.message.put_message.Goals as goal
 
-pub returns-then-line-eq0 : goal.returns-then-line-eq0
-returns-then-line-eq0 c = record { appended = message-none _ _ _ _ c.if-line-eq0.true; upper_bound = omega arith }
+pub returns-then-stop-eq0-clause-appended : goal.returns-then-stop-eq0-clause-appended
+returns-then-stop-eq0-clause-appended c = message-none _ _ _ _ c.if-stop-eq0.true
 
 pub put_number-end-requires : goal.put_number-end-requires
 put_number-end-requires c = let p = c.put_bytes-at.ensures in number_room _ c.put_bytes-at.result (omega (arith, p.behind, same_room p))
@@ -14,6 +14,5 @@ put_reason-requires c = let p = c.put_bytes-at.ensures in
     let q = c.put_number-end.ensures in
     (omega (arith, p.behind, number_behind _ q), omega (arith, same_room p, same_room q), omega arith)
 
-pub returns : goal.returns
-returns c = let p = c.put_reason.ensures in
-    record { appended = message-line _ _ c.if-line-eq0.false c.put_bytes-at.ensures c.put_number-end.ensures p.appended; upper_bound = p.upper_bound }
+pub returns-clause-appended : goal.returns-clause-appended
+returns-clause-appended c = message-line _ _ c.if-stop-eq0.false c.put_bytes-at.ensures c.put_number-end.ensures c.put_reason.ensures.appended
