@@ -38,7 +38,7 @@ use Rattle.listing.specs.Text.{lines_to, is_missing, answer_of, text_of}
 use Rattle.listing.specs.Laws.Reached.{Reached, reached-start, reached-on, reached_past}
 
 module _ (b : List ℕ) where
-  -- with everything listed, each record that is Ok has its line
+  -- with everything listed, each record that is read has its line
   part-all : (p : Place) (r : Record) → part_at None p (Ok r) ≡ line_at p r
   unfolding part_at listed shows
   part-all p (Head kind t n width) = refl

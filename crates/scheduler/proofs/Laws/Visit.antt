@@ -69,7 +69,7 @@ module _ (r : Run) (b : List ℕ) (t : ℕ) (x : TaskRun) (m : Limits) (dones sc
     noted = n;
   }
 
-  -- the group is Ok
+  -- the group is read
   pub visit_looks : x.done < x.count → (k : Next) → Looks dones x.place (group_at m b x.place x.end) k → (s a : List ℕ) → Noted r b s a → Visited r b t s a (going k)
   unfolding is_ready
   visit_looks g k l s a d =
