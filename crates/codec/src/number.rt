@@ -100,3 +100,28 @@ pub const DIFFERS: u32 = 19;
 pub const NO_FIELD: u32 = 20;
 // 21: the ends of the logs decrease, go past the logs, or are not T in number (document 02, F-8).
 pub const ENDS: u32 = 21;
+
+// Each of them is its row's.
+const _: () = prove!(
+    TASK_RANGE == Reason::TaskRange as u32
+        && OBJECT_RANGE == Reason::ObjectRange as u32
+        && ENTRIES == Reason::Entries as u32
+        && OWNER_RANGE == Reason::OwnerRange as u32
+        && NO_TASK == Reason::NoTask as u32
+        && NO_OBJECT == Reason::NoObject as u32
+        && NO_SORT == Reason::NoSort as u32
+        && FULL == Reason::Full as u32
+        && NO_ROOM == Reason::NoRoom as u32
+        && SHORT == Reason::Short as u32
+        && MALFORMED == Reason::Malformed as u32
+        && MISPLACED == Reason::Misplaced as u32
+        && RANGE == Reason::Range as u32
+        && IN_BODY == Reason::InBody as u32
+        && FINISHED == Reason::Finished as u32
+        && HELD == Reason::Held as u32
+        && UNSOUND == Reason::Unsound as u32
+        && NO_ORDER == Reason::NoOrder as u32
+        && DIFFERS == Reason::Differs as u32
+        && NO_FIELD == Reason::NoField as u32
+        && ENDS == Reason::Ends as u32
+);

@@ -94,8 +94,7 @@ pub fn look_at(
 }
 
 // Whether the group between two places ends with an access that may be done. A caller who asks no more is answered at the first ordering that is
-// not met: nothing behind it is read. With two callers of `look_at` in one program the compiler calls it, and a replay by the ready word took 1.1
-// of its time.
+// not met: nothing behind it is read. A replay by the ready word that asked `look_at`, when the compiler still called it, took 1.1 of its time.
 // Kept: a `while` over places, since the records of a group have different lengths.
 pub fn open_at(
     bytes: &[u8],

@@ -1,6 +1,8 @@
 -- The runs on the bench that concern bytes alone (document 01, "Runs on the bench", marked P), by computation.
-use Rattle.std.specs.Prelude.{Ok, Err, false, ◌≡◌, [], ◌∷◌, ◌++◌, length, take}
+use Rattle.std.specs.Prelude.{Ok, Err, false, ◌≡◌, List, ℕ, [], ◌∷◌, ◌++◌, length, take}
+use Rattle.codec.specs.declared.number.Reason.{Reason}
 use Rattle.codec.specs.declared.number.Reason.TheVariants.{Short, Misplaced, Range}
+use Rattle.codec.specs.Reason.{number_of}
 use Rattle.codec.specs.Encode.{op_of}
 use Rattle.entries.specs.Reading.{stop}
 use Rattle.entries.specs.Recording.{Recording}
@@ -16,10 +18,14 @@ smallest = record { tasks = 1; fields = 0; owners = 0 ∷ []; values = 0 ∷ [];
 abbrev zeroth : Recording
 zeroth = record { tasks = 2; fields = 0; owners = 0 ∷ []; values = 0 ∷ []; bodies = (record { orderings = record { task = 1; number = 0 } ∷ []; op = op_of 0 false 0 0 0 } ∷ []) ∷ [] ∷ [] }
 
+-- bytes are refused for a reason, at an offset, and this is the reason's number
+abbrev Refused : List ℕ → Reason → ℕ → ℕ → Type 0
+Refused b reason number offset = (checked_of (parse b) ≡ Err (stop reason offset)) × (number_of reason ≡ number)
+
 pub record Bytes : Type 0 where
-  pub none : checked_of (parse []) ≡ Err (stop Short 0)
+  pub none : Refused [] Short 10 0
   pub size : length (bytes_of smallest) ≡ 25
   pub whole : checked_of (parse (bytes_of smallest)) ≡ Ok tt
-  pub cut : checked_of (parse (take 24 (bytes_of smallest))) ≡ Err (stop Short 13)
-  pub longer : checked_of (parse (bytes_of smallest ++ (0 ∷ []))) ≡ Err (stop Misplaced 25)
-  pub from_zero : checked_of (parse (bytes_of zeroth)) ≡ Err (stop Range 25)
+  pub cut : Refused (take 24 (bytes_of smallest)) Short 10 13
+  pub longer : Refused (bytes_of smallest ++ (0 ∷ [])) Misplaced 12 25
+  pub from_zero : Refused (bytes_of zeroth) Range 13 25

@@ -1,5 +1,5 @@
 -- Laws of `Reason`.
-use Rattle.std.specs.Prelude.{ℕ, ◌≤◌}
+use Rattle.std.specs.Prelude.{◌≤◌}
 use Rattle.std.proofs.Common.{arith}
 use Rattle.codec.specs.declared.number.Reason.{Reason}
 use Rattle.codec.specs.declared.number.Reason.TheVariants.{TaskRange, ObjectRange, Entries, OwnerRange, NoTask, NoObject, NoSort, Full, NoRoom, Short, Malformed, Misplaced, Range, InBody, Finished, Held, Unsound, NoOrder, Differs, NoField, Ends}

@@ -20,7 +20,7 @@ use Rattle.reader.specs.Parse.{HeadFields, Parsed, parsed_of, values_of, on_head
 use Rattle.reader.specs.Laws.HeadCode.{Headed, head_facts, owners-count, head-from}
 use Rattle.reader.specs.Calls.{no_span}
 use Rattle.reader.specs.Laws.Standing.{Standing, parse-stands}
-use Rattle.reader.specs.Layout.{blank_spans, laid}
+use Rattle.reader.specs.Layout.{blank_spans, laid, layout_of}
 use Rattle.codec.specs.Cell.{width_of}
 use Rattle.codec.specs.Laws.Head.{width_back, kind_back}
 use Rattle.codec.specs.Laws.Within.{Within, record-within}
@@ -33,18 +33,22 @@ pub record Laid (p : Parsed) (l : Layout) : Type 0 where
   pub records : l.records ≡ records_in p.recording
   pub span : (t : ℕ) → t < p.recording.tasks → get_or l.spans t no_span ≡ get_or p.spans t no_span
 
-pub laid_read : (b : List ℕ) (p : Parsed) → parse b ≡ Ok p → Laid p (laid p)
+-- bytes that read have a layout, and it is that of what was read
+pub laid_read : (b : List ℕ) (p : Parsed) → parse b ≡ Ok p → (layout_of (parse b) ≡ Ok (laid p)) × Laid p (laid p)
+unfolding layout_of
 laid_read b p e =
     let w : Standing b p = parse-stands b p e in
     let o = w.one_each in
-    let f = w.few_tasks in
-    record {
-      tasks = refl;
-      objects = refl;
-      fields = refl;
-      records = refl;
-      span = λ t h. rw (sets-eq p.spans blank_spans 0 (omega arith), get_or-append p.spans (drop (0 + length p.spans) blank_spans) no_span t (omega arith));
-    }
+    let f = w.few_tasks in (
+      rw e refl,
+      record {
+        tasks = refl;
+        objects = refl;
+        fields = refl;
+        records = refl;
+        span = λ t h. rw (sets-eq p.spans blank_spans 0 (omega arith), get_or-append p.spans (drop (0 + length p.spans) blank_spans) no_span t (omega arith));
+      },
+    )
 
 -- the starting values: four bytes each, after the owner
 field2-drop : (n i : ℕ) (b : List ℕ) → field2 (drop n b) i ≡ field2 b (n + i)

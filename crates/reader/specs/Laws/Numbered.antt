@@ -3,11 +3,8 @@ use Rattle.std.specs.Prelude.{Err, Ok, ◌&&◌, List, ℕ, zero, suc, ◌+◌, 
 use Rattle.std.proofs.Common.{arith}
 use Rattle.codec.specs.Kind.{length_of}
 use Rattle.codec.specs.declared.Record.TheVariants.{Head, Section, Ordering, Access}
-use Rattle.codec.specs.declared.Fault.{Fault}
-use Rattle.codec.specs.declared.Fault.TheVariants.{Short as FaultShort, Malformed as FaultMalformed}
-use Rattle.codec.specs.Number.{ByReader}
-use Rattle.codec.specs.Reason.{number_of}
-use Rattle.codec.specs.Decode.{Decoded, fault_reason, record_of}
+use Rattle.codec.specs.Decode.{Decoded, record_of}
+use Rattle.codec.specs.Laws.Within.{fault_numbered}
 use Rattle.codec.specs.Head.{head_length}
 use Rattle.codec.specs.declared.number.Reason.TheVariants.{Short}
 use Rattle.entries.specs.declared.Limits.{Limits}
@@ -18,11 +15,6 @@ use Rattle.reader.specs.Section.{taken, section_body, on_section, section_at, se
 use Rattle.reader.specs.Parse.{HeadFields, on_head, head_at, parsed_of, sections_after, parse, sizes_ok, all_below, owners_of}
 use Rattle.entries.proofs.Laws.Numbered.{pick_numbered, body_numbered}
 
-fault_numbered : (f : Fault) → ByReader (number_of (fault_reason Short f))
-unfolding fault_reason
-fault_numbered FaultShort = (omega arith, omega arith)
-fault_numbered FaultMalformed = (omega arith, omega arith)
-
 section-numbered : (m : Limits) (at : ℕ) (b : List ℕ) (r : Decoded) → Numbered (on_section m at b r)
 unfolding on_section section_body taken
 section-numbered m at b (Ok (Head kind t n width)) = (omega arith, omega arith)
@@ -31,7 +23,7 @@ section-numbered m at b (Ok (Section t n size)) = pick_numbered (eqb t m.own) _ 
     (omega arith, omega arith)
 section-numbered m at b (Ok (Ordering p)) = (omega arith, omega arith)
 section-numbered m at b (Ok (Access o)) = (omega arith, omega arith)
-section-numbered m at b (Err f) = fault_numbered f
+section-numbered m at b (Err f) = fault_numbered f Short (omega arith, omega arith)
 
 sections_numbered : (tasks objects fields k t at : ℕ) (b : List ℕ) → Numbered (sections_of tasks objects fields k t at b)
 unfolding sections_of section_at
@@ -47,7 +39,7 @@ head-numbered b (Ok (Head kind t n width)) = pick_numbered (sizes_ok t n width &
 head-numbered b (Ok (Section t n size)) = (omega arith, omega arith)
 head-numbered b (Ok (Ordering p)) = (omega arith, omega arith)
 head-numbered b (Ok (Access o)) = (omega arith, omega arith)
-head-numbered b (Err f) = fault_numbered f
+head-numbered b (Err f) = fault_numbered f Short (omega arith, omega arith)
 
 after-numbered : (h : HeadFields) (b : List ℕ) → Numbered (sections_after h b)
 unfolding sections_after
