@@ -1,6 +1,6 @@
 -- The lines of a text, each ended by a newline, which may be missing at the end of the last. Lines without a word are skipped, but
 -- counted.
-use Rattle.std.specs.Prelude.{◌≡◌, Bool, cond, List, [], ◌∷◌, ℕ, ◌+◌, ◌<◌, ◌≤◌, eqb, length, Result, Ok, Err}
+use Rattle.std.specs.Prelude.{◌≡◌, Bool, cond, List, [], ◌∷◌, ℕ, ◌+◌, ◌-◌, ◌<◌, ◌≤◌, eqb, length, take, drop, Result, Ok, Err}
 use Rattle.lines.specs.declared.Next.{Next}
 use Rattle.lines.specs.Words.{front, words_of}
 
@@ -28,8 +28,14 @@ lines_from n text = numbered n (lines_of text)
 abbrev pub line_behind : ℕ → List ℕ → ℕ
 line_behind n text = n + length (lines_of text)
 
--- the first line that is not skipped, and the text that follows it
+-- the first line that is not skipped, and the text behind its newline
 pub record FirstLine (text : List ℕ) (n : ℕ) (f : Next) : Type 0 where
+  pub from : ℕ
+  pub to : ℕ
+  pub ordered : from ≤ to
+  pub inside : to ≤ length text
+  pub line : f.line.now ≡ take (to - from) (drop from text)
+  pub rest : f.rest.now ≡ drop (to + 1) text
   pub found : lines_from n text ≡ record { number = f.number; bytes = f.line.now } ∷ lines_from (f.number + 1) f.rest.now
   pub kept : line_behind (f.number + 1) f.rest.now ≡ line_behind n text
   pub within : length f.line.now + length f.rest.now ≤ length text

@@ -1,5 +1,5 @@
 -- The first three lines of a text: T and N, or T, N and F; N owners; N times F starting values.
-use Rattle.std.specs.Prelude.{Bool, true, cond, ◌&&◌, List, [], ◌∷◌, map, ℕ, min, eqb, length, Option, Some, None, is_some}
+use Rattle.std.specs.Prelude.{Bool, true, cond, ◌&&◌, List, [], ◌∷◌, map, ℕ, min, eqb, length, take_while, Option, Some, None, is_some}
 use Rattle.std.specs.Option.{unwrap_or}
 use Rattle.lines.specs.declared.field.Field.{Field}
 use Rattle.lines.specs.declared.rows.Sizes.{Sizes}
@@ -16,6 +16,10 @@ is_row n f = eqb (length f) n && all_numbers f
 
 abbrev pub values_of : List Field → List ℕ
 values_of f = map value_of f
+
+-- the numbers in front of the first word that is none
+abbrev pub leading : List Field → List ℕ
+leading f = values_of (take_while is_number f)
 
 -- the numbers, if there are so many and each word is one
 unfoldable pub numbers_of : ℕ → List Field → Option (List ℕ)

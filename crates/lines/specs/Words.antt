@@ -1,5 +1,5 @@
 -- The words of a line: the runs of bytes that are not blanks. A # begins a comment, which goes to the line's end.
-use Rattle.std.specs.Prelude.{◌≡◌, Bool, cond, ◌||◌, List, [], ◌∷◌, ℕ, ◌+◌, ◌<◌, ◌≤◌, eqb, length, take, Option, Some, None}
+use Rattle.std.specs.Prelude.{◌≡◌, Bool, cond, ◌||◌, List, [], ◌∷◌, ◌++◌, ℕ, ◌+◌, ◌<◌, ◌≤◌, eqb, length, take, Option, Some, None}
 use Rattle.lines.specs.declared.words.Word.{Word}
 use Rattle.lines.specs.Bytes.{index_of}
 
@@ -33,8 +33,10 @@ bare_of line = take (index_of 35 line) line
 abbrev pub words_of : List ℕ → List (List ℕ)
 words_of line = words_in (bare_of line)
 
--- a word at the front of a line, behind blanks, and what follows it
+-- a word at the front of a line, behind blanks, and what follows it: the three are the line
 pub record FirstWord (line : List ℕ) (w : Word) : Type 0 where
+  pub blanks : List ℕ
+  pub parts : line ≡ blanks ++ (w.bytes.now ++ w.rest.now)
   pub found : words_in line ≡ w.bytes.now ∷ words_in w.rest.now
   pub filled : 0 < length w.bytes.now
   pub within : length w.bytes.now + length w.rest.now ≤ length line

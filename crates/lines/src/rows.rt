@@ -1,9 +1,10 @@
 // The first three lines of a text: T and N, or T, N and F; the owners; the starting values.
 ghost use Rattle.std.specs.Prelude.{true, map, ◌≡◌, ◌≤◌, length};
+ghost use Rattle.std.proofs.lemmas.List.Edits.{sets};
 ghost use Rattle.codec.specs.Limit.{max_objects};
 ghost use Rattle.lines.specs.Field.{value_of};
 ghost use Rattle.lines.specs.Fields.{fields_of};
-ghost use Rattle.lines.specs.Rows.{is_row, numbers_of, sizes_of, owner_of, owners_of};
+ghost use Rattle.lines.specs.Rows.{is_row, leading, numbers_of, sizes_of, owner_of, owners_of};
 
 use crate::fields::field;
 use crate::words::{bare, next_word};
@@ -17,10 +18,12 @@ pub struct Sizes {
     pub fields: Option<usize>,
 }
 
-// A line of as many numbers as the row has places. Returns whether it is one; the numbers are put into the row.
+// A line of as many numbers as the row has places. Returns whether it is one. The numbers in front of the first word that is none
+// are put into the row, as far as there is room for them.
 pub fn read_row(line: &[u8], row: &mut [u32]) -> bool
     ensures value { result ≡ is_row (length row.old) (fields_of line.now) }
     ensures row_after { result ≡ true → row.new ≡ map value_of (fields_of line.now) }
+    ensures row_stored { row.new ≡ sets row.old 0 (leading (fields_of line.now)) }
 {
     let mut rest = bare(line);
     for place in row.iter_mut() {

@@ -1,6 +1,6 @@
 -- Laws of `Lines`.
-use Rattle.std.specs.Prelude.{◌≡◌, refl, Bool, true, false, cond, List, [], ◌∷◌, ℕ, ◌+◌, ◌<◌, ◌≤◌, eqb, ltb, length, take, drop}
-use Rattle.std.proofs.Common.{◌∙◌, add-one, arith, ltb-true, ltb-false, drop_of_length-le, drop-cons}
+use Rattle.std.specs.Prelude.{◌≡◌, refl, Bool, true, false, cond, List, [], ◌∷◌, ℕ, ◌+◌, ◌-◌, ◌<◌, ◌≤◌, eqb, ltb, length, take, drop}
+use Rattle.std.proofs.Common.{ap, ◌∙◌, add-one, arith, ltb-true, ltb-false, length-drop, drop_of_length-le, drop-cons, drop-drop}
 use Rattle.codec.specs.Laws.Decide.{passes, fails, split}
 use Rattle.lines.specs.Bytes.{index_after, index_of}
 use Rattle.lines.specs.Words.{front}
@@ -58,3 +58,25 @@ pub lines_none : (n : ℕ) (text : List ℕ) → length text ≡ 0 → (lines_fr
 unfolding numbered lines_of
 lines_none n [] h = (refl, omega arith)
 lines_none n (b ∷ bs) h = absurd (let z : ⊥ = omega arith in z)
+
+-- what is left of a text, from an offset on
+pub record Left (text left : List ℕ) : Type 0 where
+  pub at : ℕ
+  pub is : left ≡ drop at text
+
+pub left_all : (text : List ℕ) → Left text text
+left_all text = record { at = 0; is = refl }
+
+-- a first line of what is left is a part of the text, which ends within it
+module _ (text left line rest : List ℕ) (l : Left text left) (e : line ≡ take (length line) left) (g : rest ≡ drop (length line + 1) left) where
+  pub left-line : line ≡ take (l.at + length line - l.at) (drop l.at text)
+  left-line = let n : l.at + length line - l.at ≡ length line = omega arith in rw (n, ← l.is) e
+
+  pub left-rest : rest ≡ drop (l.at + length line + 1) text
+  left-rest = g ∙ rw (l.is, drop-drop) (ap (λ (i : ℕ). drop i text) (omega arith))
+
+  pub left_on : Left text rest
+  left_on = record { at = l.at + length line + 1; is = left-rest }
+
+  pub left-inside : 0 < length left → length line ≤ length left → l.at + length line ≤ length text
+  left-inside h k = omega (arith, ap length l.is, length-drop l.at text)

@@ -11,6 +11,8 @@ use Rattle.lines.specs.Fields.{field_of, fields_of}
 use Rattle.lines.specs.Laws.Fields.{field-low}
 use Rattle.lines.specs.Number.{number_limit}
 use Rattle.lines.specs.Words.{words_of}
+use Rattle.reader.specs.Laws.Range.{under_at}
+use Rattle.reader.specs.Laws.Strict.{below_under}
 use Rattle.reader.specs.Parse.{all_below}
 use borrow.Author.Tests.{lt-ltb}
 use Rattle.lines.specs.Rows.{is_row, values_of, numbers_of, number_at, sizes_of, has_fields, fields_in}
@@ -57,35 +59,35 @@ module _ (f : List Field) where
   unfolding sizes_of
   sizes-none d e = rw (numbers_bad 2 f d, numbers_bad 3 f e)
 
--- the numbers of a line are below the limit
-at-low : (ws : List (List ℕ)) (i : ℕ) → number_at (map field_of ws) i < number_limit
-at-low [] i = omega arith
-at-low (w ∷ ws) zero = field-low w
-at-low (w ∷ ws) (suc i) = at-low ws i
+-- fields whose numbers are below the limit, as the code has them
+module _ (f : List Field) (h : all_below number_limit (values_of f) ≡ true) where
+  pub row_low : (i : ℕ) → number_at f i < number_limit
+  row_low i = rw (← value_at f i) (under_at number_limit (values_of f) i (omega arith) (below_under number_limit (values_of f) h))
 
+  pub row_sizes_low : (z : Sizes) → sizes_of f ≡ Some z → (z.objects < number_limit) × (fields_in z < number_limit)
+  unfolding sizes_of
+  row_sizes_low z e = elim (split (is_row 2 f)) [
+    | passes p ↦ rw (← same_Some _ _ (rw p at e)) (row_low 1, omega arith)
+    | fails p ↦ elim (split (is_row 3 f)) [
+      | passes q ↦ rw (← same_Some _ _ (rw (p, q) at e)) (row_low 1, row_low 2)
+      | fails q ↦ absurd (none-some z (rw (p, q) at e))
+    ]
+  ]
+
+-- the numbers of a line are below the limit
 all-low : (ws : List (List ℕ)) → all_below number_limit (values_of (map field_of ws)) ≡ true
 unfolding all_below
 all-low [] = refl
 all-low (w ∷ ws) = rw (lt-ltb (value_of (field_of w)) number_limit (field-low w)) (all-low ws)
 
-pub numbers_low : (line : List ℕ) (i : ℕ) → number_at (fields_of line) i < number_limit
-numbers_low line i = at-low (words_of line) i
-
 pub values_low : (line : List ℕ) → all_below number_limit (values_of (fields_of line)) ≡ true
 values_low line = all-low (words_of line)
 
+pub numbers_low : (line : List ℕ) (i : ℕ) → number_at (fields_of line) i < number_limit
+numbers_low line i = row_low (fields_of line) (values_low line) i
+
 pub sizes_low : (line : List ℕ) (z : Sizes) → sizes_of (fields_of line) ≡ Some z → (z.objects < number_limit) × (fields_in z < number_limit)
-unfolding sizes_of
-sizes_low line z e =
-    let f = fields_of line in
-    let l = at-low (words_of line) in
-    elim (split (is_row 2 f)) [
-      | passes p ↦ rw (← same_Some _ _ (rw p at e)) (l 1, omega arith)
-      | fails p ↦ elim (split (is_row 3 f)) [
-        | passes q ↦ rw (← same_Some _ _ (rw (p, q) at e)) (l 1, l 2)
-        | fails q ↦ absurd (none-some z (rw (p, q) at e))
-      ]
-    ]
+sizes_low line z e = row_sizes_low (fields_of line) (values_low line) z e
 
 -- a line without F has 0 for it
 pub sizes_unnamed : (z : Sizes) → has_fields z ≡ false → fields_in z ≡ 0

@@ -1,8 +1,9 @@
 -- A line's words as the code finds them.
-use Rattle.std.specs.Prelude.{◌≡◌, refl, Bool, true, false, cond, not, List, [], ◌∷◌, ℕ, suc, ◌+◌, ◌<◌, ◌≤◌, ltb, length, take, drop, Option}
+use Rattle.std.specs.Prelude.{◌≡◌, refl, Bool, true, false, cond, not, List, [], ◌∷◌, ◌++◌, ℕ, suc, ◌+◌, ◌<◌, ◌≤◌, ltb, length, take, drop, Option}
 use Rattle.std.proofs.Common.{ap, ◌∙◌, arith, ltb-false, length-take-le}
 use Rattle.std.specs.List.{position_or_len, position}
 use Rattle.std.specs.Option.{unwrap_or}
+use Rattle.std.proofs.lemmas.List.{take-append-drop}
 use Rattle.std.proofs.lemmas.List.Recursion.{is_position_or_len}
 use Rattle.codec.specs.Laws.Decide.{passes, fails, split}
 use Rattle.lines.specs.Words.{is_blank, front, pieces_of, filled_of, words_in}
@@ -99,3 +100,8 @@ module _ (l filled : List ℕ) (e : filled ≡ drop (run_of true l) l) where
 
   pub word-found : 0 < run_of false filled → words_in l ≡ take (run_of false filled) filled ∷ words_in (drop (run_of false filled) filled)
   word-found h = skip l ∙ rw (← e) (word filled h)
+
+-- the line is the blanks, the word and what follows it
+pub word-parts : (l blanks filled bytes rest : List ℕ) (m n : ℕ) → blanks ≡ take m l → filled ≡ drop m l → bytes ≡ take n filled → rest ≡ drop n filled
+    → l ≡ blanks ++ (bytes ++ rest)
+word-parts l blanks filled bytes rest m n a f w r = rw (a, w, r, take-append-drop, f, take-append-drop)

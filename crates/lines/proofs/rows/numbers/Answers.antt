@@ -1,4 +1,4 @@
-use Rattle.std.proofs.Common.{sym, refl}
+use Rattle.std.proofs.Common.{ap, ◌∙◌, sym, refl, Some}
 use Rattle.std.proofs.lemmas.List.{length-replicate}
 use Rattle.lines.specs.Laws.Rows.{numbers-some, numbers-none}
 use Rattle.lines.proofs.rows.numbers.Goals as goal
@@ -9,4 +9,4 @@ returns-then-not-read_row g c = sym (numbers-none _ _ (rw length-replicate at (s
 pub returns : goal.returns
 returns g c =
     let e = rw length-replicate at (sym c.if-not-read_row.ensures.value) in
-    rw (c.if-not-read_row.ensures.row_after refl) (sym (numbers-some _ _ e))
+    ap Some (c.if-not-read_row.ensures.row_after refl) ∙ sym (numbers-some _ _ e)

@@ -3,4 +3,4 @@ use Rattle.lines.specs.Words.{bare_of}
 use Rattle.lines.proofs.rows.read_row.Given as goal
 
 abbrev pub invariant-loop-place : goal.invariant-loop-place
-invariant-loop-place l = Rows (bare_of l.line) l.rest l.place-index l.row
+invariant-loop-place l = Rows (bare_of l.line) l.initial.row l.rest l.place-index l.row
