@@ -135,7 +135,8 @@ fn read_all<'b, R: Read>(
     what: &[u8],
     buffer: &'b mut [u8],
 ) -> Option<&'b [u8]>
-    ensures { FitsIn result buffer.old }
+    ensures fits { FitsIn result buffer.old }
+    ensures bytes { IfSome result (λ read. Consumes (R.remaining source.old) (R.remaining source.new) read.now) }
 {
     match fill(source, buffer) {
         Ok(count) => Some(&buffer[..count]),

@@ -1,7 +1,7 @@
 // The options of a program that can be paused: --steps N, --done N0 N1 ..., --order FILE, each at most once, before the file.
 #![tactic(auto)]
 
-ghost use Rattle.std.specs.Prelude.{◌≡◌, ◌≤◌, ◌<◌, IfOk, IfSome, length};
+ghost use Rattle.std.specs.Prelude.{◌≡◌, ◌≤◌, ◌<◌, IfOk, IfSome, length, max};
 ghost use Rattle.input.specs.Counts.{FitsIn};
 
 use input::{Program, from_argument, from_rest, is_option, number_at, with_word, word_count};
@@ -72,7 +72,7 @@ fn is_file(rt: HostRuntime, at: usize) -> bool {
 // The first argument from `from` on that is not a number.
 fn past_numbers(rt: HostRuntime, from: usize, words: usize) -> usize
     requires { from ≤ words }
-    ensures { from ≤ result }
+    ensures { (from ≤ result) × (result ≤ words) }
 {
     (from..words)
         .find(|at| number_at(rt, *at).is_none())
@@ -82,7 +82,7 @@ fn past_numbers(rt: HostRuntime, from: usize, words: usize) -> usize
 // --steps and a number.
 fn take_steps(rt: HostRuntime, o: Options, words: usize) -> Result<Options, Misuse>
     requires { o.next < words }
-    ensures { IfOk result (λ more. o.next < more.next) }
+    ensures { IfOk result (λ more. (o.next < more.next) × (more.next ≤ words)) }
 {
     let at = o.next + 1;
     if o.steps.is_some() || words <= at {
@@ -96,7 +96,7 @@ fn take_steps(rt: HostRuntime, o: Options, words: usize) -> Result<Options, Misu
 // --done and one count or more.
 fn take_done(rt: HostRuntime, o: Options, words: usize) -> Result<Options, Misuse>
     requires { o.next < words }
-    ensures { IfOk result (λ more. o.next < more.next) }
+    ensures { IfOk result (λ more. (o.next < more.next) × (more.next ≤ words)) }
 {
     let at = o.next + 1;
     let next = past_numbers(rt, at, words);
@@ -110,7 +110,7 @@ fn take_done(rt: HostRuntime, o: Options, words: usize) -> Result<Options, Misus
 // --order and a file's name.
 fn take_order(rt: HostRuntime, o: Options, words: usize) -> Result<Options, Misuse>
     requires { o.next < words }
-    ensures { IfOk result (λ more. o.next < more.next) }
+    ensures { IfOk result (λ more. (o.next < more.next) × (more.next ≤ words)) }
 {
     let at = o.next + 1;
     if o.order.is_some() || words <= at || !is_file(rt, at) {
@@ -123,7 +123,7 @@ fn take_order(rt: HostRuntime, o: Options, words: usize) -> Result<Options, Misu
 
 // One option more, unless the next argument is none.
 fn take_option(rt: HostRuntime, o: Options, words: usize) -> Result<Option<Options>, Misuse>
-    ensures { IfOk result (λ taken. IfSome taken (λ more. (o.next < words) × (o.next < more.next))) }
+    ensures { IfOk result (λ taken. IfSome taken (λ more. (o.next < words) × (o.next < more.next) × (more.next ≤ words))) }
 {
     if words <= o.next {
         return Ok(None);
@@ -140,7 +140,9 @@ fn take_option(rt: HostRuntime, o: Options, words: usize) -> Result<Option<Optio
 }
 
 // All options, up to the first argument that is none.
-fn take_options(rt: HostRuntime, words: usize) -> Result<Options, Misuse> {
+fn take_options(rt: HostRuntime, words: usize) -> Result<Options, Misuse>
+    ensures { IfOk result (λ o. o.next ≤ max 1 words) }
+{
     let mut o = Options {
         next: 1,
         steps: None,

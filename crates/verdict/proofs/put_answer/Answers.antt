@@ -4,7 +4,7 @@ use lib.ListN.{length}
 use lib.Seq.{length-take-le}
 use Rattle.replay_lines.proofs.Laws.LinesBound.{refusal_few}
 use Rattle.text.specs.Laws.Appended.{nothing}
-use Rattle.verdict.specs.Laws.Answered.{Told, told, Yes, yes_so, no_so, says_refused}
+use Rattle.verdict.specs.Laws.Answered.{Played, played, Yes, yes_played, no_played, says_refused}
 use Rattle.verdict.specs.Laws.Lines.{no_few}
 use Rattle.verdict.specs.Laws.TextBound.{text_bound}
 use Rattle.playability.proofs.Laws.PlayableCode.{settled_sound}
@@ -20,13 +20,13 @@ returns-in-Err c =
     record { appended = rw (w.0, ← c.number.ensures) c.put_refusal-text.ensures; appended_2 = rw w.1 (nothing c.args.why.now 0) }
 
 -- what the call answered
-told_so : (c : After-playable_settled-a) → Told c.args.bytes.now c.in-Ok.s c.playable_settled-a.result c.playable_settled-a.new.out
-told_so c =
-    told c.args.bytes.now (omega arith) (λ i. omega (arith, c.shared_slice_known-1.given i)) c.blank_order-order.result (omega (arith, c.blank_order-order.ensures.long))
+played_so : (c : After-playable_settled-a) → Played c.args.bytes.now c.in-Ok.s c.playable_settled-a.result c.playable_settled-a.new.out
+played_so c =
+    played c.args.bytes.now (omega arith) (λ i. omega (arith, c.shared_slice_known-1.given i)) c.blank_order-order.result (omega (arith, c.blank_order-order.ensures.long))
     _ (sym c.in-Ok.is ∙ c.settle.ensures) _ _ c.playable_settled-a.ensures.value c.playable_settled-a.ensures.out_after
 
 says_yes : (c : Then-a-eq0) → Yes c.args.bytes.now c.playable_settled-a.result c.playable_settled-a.new.out
-says_yes c = yes_so (told_so (goal.at.Then-a-eq0 c).After-playable_settled-a) c.if-a-eq0.true
+says_yes c = yes_played (played_so (goal.at.Then-a-eq0 c).After-playable_settled-a) c.if-a-eq0.true
 
 pub slice_bounds-playable_settled-end : goal.slice_bounds-playable_settled-end
 slice_bounds-playable_settled-end c = c.blank_order-order.ensures.long
@@ -54,5 +54,5 @@ pub put_waits-reasons-requires : goal.put_waits-reasons-requires
 put_waits-reasons-requires c = (settled_sound _ _ (sym c.in-Ok.is ∙ c.settle.ensures), omega arith)
 
 pub returns : goal.returns
-returns c = let n = no_so (told_so (goal.at.returns c).After-playable_settled-a) c.if-a-eq0.false in
+returns c = let n = no_played (played_so (goal.at.returns c).After-playable_settled-a) c.if-a-eq0.false in
     record { appended = rw n.0 c.put_no-text.ensures; appended_2 = rw n.1 c.put_waits-reasons.ensures }
