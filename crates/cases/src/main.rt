@@ -11,7 +11,9 @@ fn put(rt: HostRuntime, text: &[u8]) {
     let _ = rt.stdout().write_all(text);
 }
 
-// Writes what the replay program writes on both streams for a recording without options.
+// Writes what the replay program writes on both streams for a recording without options. Its buffers must not become part of the frame of
+// `play_file`, on which those of a paused play come.
+#[inline(never)]
 fn play(rt: HostRuntime, bytes: &[u8]) {
     let mut out = transcript::space();
     let mut why = [0u8; MOST_WAITS];

@@ -107,7 +107,9 @@ fn set_memory(memory: &mut [u32], starts: &[u32])
     requires { length memory.old ≡ length starts.now }
     ensures { memory.new ≡ starts.now }
 {
-    memory.copy_from_slice(starts);
+    for (i, start) in starts.iter().enumerate() {
+        memory[i] = *start;
+    }
 }
 
 // The state of an opening with T, N, F and owners in range.
