@@ -31,7 +31,6 @@ fn refused(reason: Reason, offset: usize) -> Compared
 }
 
 // Both have finished, with equal T, N and step count, and `memory` says whether their memories are equal.
-#[tactic(auto, unfolding(crate::specs::Alike::alike_of))]
 fn alike(x: Played, y: Played, memory: bool) -> bool
     ensures { result ≡ alike_of x y memory }
 {
